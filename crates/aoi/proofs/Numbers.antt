@@ -1,15 +1,16 @@
--- Numbers of arms and of items, and names that are followed; unions, by induction on the arms.
+-- Numbers of arms and of items, and names that are followed; unions, by induction on the arms; arrays of arrays.
 use Rattle.std.proofs.Common.{◌≡◌, ℕ, suc, ◌+◌, ◌-◌, ◌<◌, ◌≤◌, ℤ, get_or, take, drop, nat_lt, true, false, if◌then◌else◌, sym, subst, ◌∙◌, length-drop, arith, List, [], ◌∷◌, map, Option, Some, None, Bool, not, ◌||◌, ◌&&◌, ◌==◌, length, refl, ap}
-use Rattle.std.specs.List.{list_any}
+use Rattle.std.specs.List.{list_all, list_any}
 use Rattle.std.specs.Ordering.{int_eq}
 use Rattle.std.proofs.Math.Seq.{drop-cons, take-length}
 use Rattle.std.proofs.lemmas.Bool.{ne_eqb, lt-ltb}
 use Rattle.std.proofs.lemmas.List.{get_or-map}
 use Rattle.std.specs.Option.{is_some}
+use Rattle.mint.specs.declared.kind.Count.{Count}
 use Rattle.aoi.specs.declared.types.Ty.{Ty}
 use Rattle.aoi.specs.declared.types.Field.{Field}
-use Rattle.aoi.specs.Shapes.{Shape, choice, void, seen, shapes, arms_seen, members, default_of}
-use Rattle.aoi.specs.Sound.{numbers_of, has_arm, are_sound_labels, is_sound_union, count_different, name_in, unfolded, or_void, is_sound_type, are_sound_arms, has_member}
+use Rattle.aoi.specs.Shapes.{Shape, array, arrayed, choice, void, seen, shapes, arms_seen, members, default_of}
+use Rattle.aoi.specs.Sound.{numbers_of, has_arm, are_sound_labels, is_sound_union, count_different, is_some_count, name_in, unfolded, or_void, is_sound_type, are_sound_arms, has_member}
 
 pub numbers_seen : (arms : List (ℤ × Ty)) (other : Option Shape) → numbers_of (arms_seen arms other) ≡ map (λ a. a.0) arms
 numbers_seen [] None = refl
@@ -76,6 +77,20 @@ member_there (f ∷ fields) = let some : (suc (length fields) == 0) ≡ false = 
 regrouped : (a b c : Bool) → (a && (b && c)) ≡ ((a && b) && c)
 regrouped true b c = refl
 regrouped false b c = refl
+
+arrays_sound : (types : List Shape) (limit : ℕ) (s : Shape) (cs : List Count)
+    → is_sound_type types limit (arrayed s cs) ≡ (list_all is_some_count cs && is_sound_type types limit s)
+arrays_sound types limit s [] = refl
+arrays_sound types limit s (c ∷ cs) = ap (λ z. is_some_count c && z) (arrays_sound types limit s cs)
+    ∙ regrouped (is_some_count c) (list_all is_some_count cs) (is_sound_type types limit s)
+
+pub arrays_are : (types : List Shape) (limit : ℕ) (s : Shape) (c : Count) (cs : List Count) (r a b i j : Bool)
+    → r ≡ (a && j) → j ≡ (b && i) → a ≡ is_some_count c → b ≡ list_all is_some_count cs → i ≡ is_sound_type types limit s
+    → r ≡ is_sound_type types limit (array (arrayed s cs) c)
+arrays_are types limit s c cs r a b i j r_is j_is a_is b_is i_is =
+    r_is ∙ ap (λ z. z && j) a_is
+    ∙ ap (λ z. is_some_count c && z) (j_is ∙ ap (λ z. z && i) b_is ∙ ap (λ z. list_all is_some_count cs && z) i_is
+    ∙ sym (arrays_sound types limit s cs))
 
 alone : (b : Bool) → b ≡ (true && b)
 alone b = refl

@@ -43,6 +43,11 @@ abbrev pub default_of : Option Shape → Arms
 default_of None = no_default
 default_of (Some s) = default s
 
+-- arrays of arrays, the outermost first
+abbrev pub arrayed : Shape → List Count → Shape
+arrayed s [] = s
+arrayed s (c ∷ cs) = array (arrayed s cs) c
+
 -- one level of a type, over the trees of its parts
 abbrev pub seen_level : Ty-F Shape (List ℕ × Shape) → Shape
 seen_level Ty-F.Void = void
@@ -50,6 +55,7 @@ seen_level (Ty-F.Num k) = number k
 seen_level (Ty-F.Enum items) = enumeration items
 seen_level (Ty-F.Text c) = text c
 seen_level (Ty-F.Array s c) = array s.value c
+seen_level (Ty-F.Arrays s c cs) = array (arrayed s.value cs) c
 seen_level (Ty-F.Struct fs) = structure (members_of fs)
 seen_level (Ty-F.Union tag arms other) = choice tag.value (arms_of arms (default_of (option_map (λ s. s.value) other)))
 seen_level (Ty-F.Optional s) = optional s.value

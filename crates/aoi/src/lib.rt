@@ -11,5 +11,5 @@ mod units;
 pub use faults::{NameErr, NameFault};
 pub use interfaces::{Interface, Interfaces, Operation, Operations, Raise, Raises};
 pub use soundness::{is_sound, unfolded};
-pub use types::{Field, Fields, Items, Ty, Types, UnionArms};
+pub use types::{Counts, Field, Fields, Items, Ty, Types, UnionArms};
 pub use units::{Unit, UnitErr};

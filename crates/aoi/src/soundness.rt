@@ -59,6 +59,12 @@ fn is_sound_type(ty: &Ty, types: &[(Name, Ty)], limit: usize) -> bool
         Ty::Enum(items) => is_sound_enum(items.as_slice()),
         Ty::Text(count) => is_open(*count),
         Ty::Array(item, count) => is_some_count(*count) && is_sound_type(item, types, limit),
+        Ty::Arrays(item, count, within) => {
+            let is_count = is_some_count(*count);
+            let are_counts = are_some_counts(within.as_slice());
+            let is_item = is_sound_type(item, types, limit);
+            are_both(is_count, are_both(are_counts, is_item))
+        }
         Ty::Struct(fields) => is_sound_struct(fields.as_slice(), types, limit),
         Ty::Union(tag, arms, other) => {
             let is_tag = is_sound_type(tag, types, limit);
@@ -164,6 +170,18 @@ fn is_some_count(count: Count) -> bool
         Count::Exactly(n) => n > 0,
         Count::AtMost(_) | Count::Any => true,
     }
+}
+
+/// Whether arrays may have these counts.
+fn are_some_counts(counts: &[Count]) -> bool
+    ensures { result ≡ list_all is_some_count counts.now }
+{
+    for count in counts {
+        if !is_some_count(*count) {
+            return false;
+        }
+    }
+    true
 }
 
 fn is_sound_enum(items: &[(Name, i32)]) -> bool

@@ -6,6 +6,9 @@ use mint::kind::{Count, Kind};
 /// The items of an enum, each with its number.
 pub type Items = Listed<(Name, i32)>;
 
+/// Counts of elements, in order.
+pub type Counts = Listed<Count>;
+
 /// Fields, in order.
 pub type Fields = Listed<Field>;
 
@@ -29,6 +32,10 @@ pub enum Ty {
     Text(Count),
     /// An array or a sequence: the type of its elements, and how many there are.
     Array(Box<Ty>, Count),
+    /// Arrays within one another: the type of the innermost elements, how many elements the outermost array has,
+    /// and how many each one within it has, from the outside in. Their counts are a list, so that a walk over a
+    /// type is not as deep as its arrays. With none within the outermost it is as `Array`.
+    Arrays(Box<Ty>, Count, Counts),
     /// A struct: its fields, each with its name.
     Struct(Fields),
     /// A discriminated union: the type of its discriminant, the arms, each with the number that chooses it,

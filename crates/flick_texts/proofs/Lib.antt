@@ -14,5 +14,7 @@ pub mod Naming
 pub mod Reading
 -- * The text of a union, by induction on its arms
 pub mod Unions
+-- * The text of arrays of arrays, by induction on the counts
+pub mod Arrays
 -- Texts that were worked out by hand
 mod Worked

@@ -4,6 +4,7 @@ ghost use Rattle.std.specs.Prelude.{◌≡◌, ◌++◌, [], None, OnOk, slice_i
 ghost use Rattle.std.specs.Option.{option_map};
 ghost use Rattle.aoi.specs.Shapes.{arms_seen, default_of, members, seen};
 ghost use Rattle.stub_print.specs.Putting.{IsPut};
+ghost use Rattle.flick_texts.specs.Arrays.{all_elements_text};
 ghost use Rattle.flick_texts.specs.TypeText.{arms_text, elements_text, fields_text, items_text, kind_word, mark_after, names_of, parameters_text, string_text, trees_of, type_text};
 
 use crate::words::{put, put_numbered, put_signed};
@@ -23,6 +24,11 @@ pub(crate) fn put_type(out: &mut Octets, ty: &Ty, types: &[(Name, Ty)]) -> Resul
         Ty::Text(count) => put_string(out, *count),
         Ty::Array(item, count) => {
             put_elements(out, *count)?;
+            put_type(out, item, types)
+        }
+        Ty::Arrays(item, count, within) => {
+            put_elements(out, *count)?;
+            put_all_elements(out, within.as_slice())?;
             put_type(out, item, types)
         }
         Ty::Struct(fields) => {
@@ -187,6 +193,16 @@ fn put_elements(out: &mut Octets, count: Count) -> Result<(), NoMemory>
         }
         Count::Any => put(out, b"list of "),
     }
+}
+
+/// Puts how many elements there are in each of arrays of arrays, from the outside in.
+fn put_all_elements(out: &mut Octets, counts: &[Count]) -> Result<(), NoMemory>
+    ensures { OnOk result (IsPut out.old (all_elements_text counts.now) out.new) }
+{
+    for count in counts {
+        put_elements(out, *count)?;
+    }
+    Ok(())
 }
 
 /// The word of a kind of numbers.

@@ -4,7 +4,7 @@
 pub mod Indexing
 -- * Elements of lists, by their places, as plain trees, by induction on the list
 pub mod Getting
--- * What a copy of a union is seen as
+-- * What copies of a union and of arrays of arrays are seen as
 pub mod Copying
 -- A declaration puts types after the others, if any
 pub mod Growing

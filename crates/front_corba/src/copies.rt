@@ -7,7 +7,7 @@ ghost use Rattle.aoi.specs.Plain.{plain_raise, plain_operation};
 ghost use Rattle.idl_names.specs.Arms.{arms_held};
 
 use aoi::{Field, Fields, Items, Operation, Raise, Raises, Ty, UnionArms};
-use idl_names::{array_of, boxed, enum_of, optional_of, struct_of, union_of};
+use idl_names::{array_of, arrays_of, boxed, enum_of, optional_of, struct_of, union_of};
 use kit_base::{Name, NoMemory};
 use std::alloc::Global;
 
@@ -47,6 +47,9 @@ pub(crate) fn copy_ty(alloc: Global, ty: &Ty) -> Result<Ty, NoMemory>
         Ty::Enum(items) => Ok(enum_of(copy_items(alloc, items.as_slice())?)),
         Ty::Text(count) => Ok(Ty::Text(*count)),
         Ty::Array(item, count) => array_of(alloc, copy_ty(alloc, item)?, *count),
+        Ty::Arrays(item, count, within) => {
+            arrays_of(alloc, copy_ty(alloc, item)?, *count, within.as_slice())
+        }
         Ty::Struct(fields) => Ok(struct_of(copy_fields(alloc, fields.as_slice())?)),
         Ty::Union(tag, arms, other) => {
             let tag = copy_ty(alloc, tag)?;

@@ -2,9 +2,9 @@
 
 ghost use Rattle.std.specs.Prelude.{◌≡◌, IfOk};
 ghost use Rattle.std.specs.Option.{option_map};
-ghost use Rattle.aoi.specs.Shapes.{seen, array, optional, structure, members, enumeration, choice, arms_seen};
+ghost use Rattle.aoi.specs.Shapes.{seen, array, arrayed, optional, structure, members, enumeration, choice, arms_seen};
 
-use aoi::{Fields, Items, Ty, UnionArms};
+use aoi::{Counts, Fields, Items, Ty, UnionArms};
 use kit_base::NoMemory;
 use mint::kind::Count;
 use std::alloc::Global;
@@ -14,6 +14,14 @@ pub fn array_of(alloc: Global, item: Ty, count: Count) -> Result<Ty, NoMemory>
     ensures { IfOk result (λ t. seen t ≡ array (seen item) count) }
 {
     Ok(Ty::Array(Box::new(alloc, item)?, count))
+}
+
+/// Arrays of arrays: elements of one type, in rows of rows, the counts from the outside in.
+pub fn arrays_of(alloc: Global, item: Ty, count: Count, within: &[Count]) -> Result<Ty, NoMemory>
+    ensures { IfOk result (λ t. seen t ≡ array (arrayed (seen item) within.now) count) }
+{
+    let within = Counts::from_slice(alloc, within)?;
+    Ok(Ty::Arrays(Box::new(alloc, item)?, count, within))
 }
 
 /// A value of a type, or none.

@@ -8,6 +8,8 @@ pub mod Drafting
 pub mod Ordered
 -- * Types that are drawn, part by part, by induction on the members and on the arms
 pub mod Drawn
+-- * Arrays of arrays that are drawn, the innermost first, by induction on the counts
+pub mod Arrayed
 -- * Requests and replies that are drawn, by induction on the arms and on the operations
 pub mod Exchange
 -- * The types of a unit, and then its interfaces, by induction on the types

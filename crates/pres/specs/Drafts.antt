@@ -3,18 +3,22 @@ use Rattle.std.specs.Prelude.{IsTrue, ◌≡◌, ◌≢◌, ◌<◌, ◌≤◌, 
 use Rattle.std.specs.List.{AllByRecursion}
 use Rattle.kit_base.specs.Limits.{most_nodes}
 use Rattle.mint.specs.declared.kind.Kind.{Kind}
-use Rattle.mint.specs.Types.{IsTable, ArmsBelow, IsBelow}
+use Rattle.mint.specs.declared.kind.Count.{Count}
+use Rattle.mint.specs.Types.{row_of, IsTable, ArmsBelow, IsBelow}
 use Rattle.mint.specs.declared.node.Node.{Node}
 use Rattle.aoi.specs.Shapes as aoi
 use Rattle.aoi.specs.Sound.{are_distinct, names_of}
 use Rattle.aoi.specs.Plain.{PlainOperation, PlainInterface, PlainUnit, plain_shapes}
 use Rattle.pres.specs.declared.ops.Op.{Op}
 use Rattle.pres.specs.declared.shape.Shape.{Shape}
+use Rattle.pres.specs.declared.elements.Element.{Element}
+use Rattle.pres.specs.declared.elements.Element.TheVariants.{Packed, Drawn}
 use Rattle.pres.specs.declared.errors.BindErr.{BindErr}
 use Rattle.pres.specs.declared.errors.BindErr.TheVariants as err
-use Rattle.pres.specs.Faces.{ItemList, number, item, Face, scalar, Arms, faces, at, arms_at}
+use Rattle.pres.specs.Faces.{ItemList, number, item, Face, scalar, numbers, list, Arms, faces, at, arms_at}
 use Rattle.pres.specs.Named.{AreNamed}
-use Rattle.pres.specs.Offers.{Offer, face_of, exception, offer_at}
+use Rattle.pres.specs.Offers.{Offer, packed, face_of, exception, offer_at}
+use Rattle.pres.specs.Made.{kept, made}
 
 -- nodes with their shapes, and the nodes of the types so far
 pub record Sketch : Type 0 where
@@ -46,6 +50,25 @@ pub record Grows (old new : Sketch) (more : List Face) : Type 0 where
 pub record IsDrawn (s : Sketch) (id : ℕ) (f : Face) : Type 0 where
   pub below : id < length (drawn s)
   pub is : at (drawn s) id ≡ f
+
+-- the nodes of a type as that of elements
+abbrev pub made_within : List Face → aoi.Shape → List Face
+made_within fs s = kept (packed (face_of fs s)) (made fs s)
+
+-- the row of elements, over what the nodes unfold to
+abbrev pub elements_at : List Face → Element → Count → Face
+elements_at fs (Packed k) c = numbers (row_of k c)
+elements_at fs (Drawn id) c = list c (at fs id)
+
+-- an element whose node, if it has one, is below a limit
+abbrev pub IsPlaced : ℕ → Element → Type 0
+IsPlaced n (Packed k) = Unit {0}
+IsPlaced n (Drawn id) = id < n
+
+-- an element that unfolds to a face: a kind whose numbers stand together, or the node of what does not
+abbrev pub IsElement : Sketch → Element → Face → Type 0
+IsElement s (Packed k) f = packed f ≡ Some k
+IsElement s (Drawn id) f = (packed f ≡ None) × IsDrawn s id f
 
 -- nodes that unfold to faces
 pub record AreDrawn (s : Sketch) (ids : List ℕ) (fs : List Face) : Type 0 where

@@ -2,14 +2,15 @@
 
 ghost use Rattle.std.specs.Prelude.{[], ◌∷◌, ◌++◌, length, IfOk, IfErr, OnOk, IsTrue, None};
 ghost use Rattle.std.specs.Option.{option_map};
-ghost use Rattle.aoi.specs.Shapes.{seen, members, array, structure, optional, enumeration, arms_seen, default_of};
+ghost use Rattle.aoi.specs.Shapes.{seen, members, array, arrayed, structure, optional, enumeration, arms_seen, default_of};
 ghost use Rattle.mint.specs.Types.{ArmsBelow, IsBelow};
 ghost use Rattle.pres.specs.Faces.{arms_at, choice};
-ghost use Rattle.pres.specs.Drafts.{Grows, IsDrawn, AreDrawn, AreArms, Overflows, drawn, known, is_drawable, are_drawable, arms_drawable, faces_inside};
+ghost use Rattle.pres.specs.Drafts.{Grows, IsDrawn, AreDrawn, AreArms, IsElement, Overflows, drawn, known, made_within, is_drawable, are_drawable, arms_drawable, faces_inside};
 ghost use Rattle.pres.specs.Made.{made, made_inside, made_after};
 ghost use Rattle.pres.specs.Offers.{face_of, arms_of, sign_in};
 
 use crate::draft::Draft;
+use crate::elements::Element;
 use crate::naming::{copy_items, field_names};
 use crate::sorting::{labels_of, put_arm};
 use crate::{BindErr, ItemTable, Shape};
@@ -35,7 +36,10 @@ impl Draft {
             Ty::Num(kind) => self.push(Node::Num(*kind), Shape::Plain),
             Ty::Enum(items) => self.draw_enum(alloc, items),
             Ty::Text(count) => self.push(Node::Text(*count), Shape::Plain),
-            Ty::Array(item, count) => self.draw_array(alloc, item, *count),
+            Ty::Array(item, count) => self.draw_arrays(alloc, item, *count, &[]),
+            Ty::Arrays(item, count, within) => {
+                self.draw_arrays(alloc, item, *count, within.as_slice())
+            }
             Ty::Struct(fields) => self.draw_struct(alloc, fields.as_slice()),
             Ty::Union(tag, arms, other) => {
                 let other = self.draw_other(alloc, other)?;
@@ -62,23 +66,47 @@ impl Draft {
         self.push(Node::Enum(labels), Shape::LabelNames(table))
     }
 
+    /// Draws the nodes of elements, unless they are numbers that stand together.
     #[cycle(draw)]
-    fn draw_array(&mut self, alloc: Global, item: &Ty, count: Count) -> Result<NodeId, BindErr>
-        requires { IsTrue (is_drawable (length (known self.old)) (array (seen item.now) count)) }
-        ensures grows { OnOk result
-            (Grows self.old self.new (made (known self.old) (array (seen item.now) count))) }
-        ensures id { IfOk result
-            (λ id. IsDrawn self.new id (face_of (known self.old) (array (seen item.now) count))) }
+    fn draw_element(&mut self, alloc: Global, item: &Ty) -> Result<Element, BindErr>
+        requires { IsTrue (is_drawable (length (known self.old)) (seen item.now)) }
+        ensures grows { OnOk result (Grows self.old self.new (made_within (known self.old) (seen item.now))) }
+        ensures element { IfOk result
+            (λ e. IsElement self.new e (face_of (known self.old) (seen item.now))) }
         ensures cause { IfErr result
-            (λ e. Overflows (drawn self.old ++ made (known self.old) (array (seen item.now) count)) e) }
+            (λ e. Overflows (drawn self.old ++ made_within (known self.old) (seen item.now)) e) }
     {
         match self.packed(item) {
-            Some(kind) => self.push(Node::Row(kind, count), Shape::Plain),
-            None => {
-                let id = self.draw(alloc, item)?;
-                self.push(Node::Items(id, count), Shape::Plain)
-            }
+            Some(kind) => Ok(Element::Packed(kind)),
+            None => Ok(Element::Drawn(self.draw(alloc, item)?)),
         }
+    }
+
+    /// Draws the nodes of arrays of arrays, the innermost first.
+    #[cycle(draw)]
+    fn draw_arrays(
+        &mut self,
+        alloc: Global,
+        item: &Ty,
+        count: Count,
+        within: &[Count],
+    ) -> Result<NodeId, BindErr>
+        requires { IsTrue
+            (is_drawable (length (known self.old)) (array (arrayed (seen item.now) within.now) count)) }
+        ensures grows { OnOk result (Grows self.old self.new
+            (made (known self.old) (array (arrayed (seen item.now) within.now) count))) }
+        ensures id { IfOk result (λ id. IsDrawn self.new id
+            (face_of (known self.old) (array (arrayed (seen item.now) within.now) count))) }
+        ensures cause { IfErr result (λ e. Overflows
+            (drawn self.old ++ made (known self.old) (array (arrayed (seen item.now) within.now) count)) e) }
+    {
+        let mut element = self.draw_element(alloc, item)?;
+        for i in 0..within.len() {
+            let inner = within[within.len() - 1 - i];
+            let id = self.draw_row(element, inner)?;
+            element = Element::Drawn(id);
+        }
+        self.draw_row(element, count)
     }
 
     #[cycle(draw)]

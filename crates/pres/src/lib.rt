@@ -6,6 +6,7 @@ mod bound;
 mod build;
 mod draft;
 mod drawing;
+mod elements;
 mod errors;
 mod faults;
 mod fields;

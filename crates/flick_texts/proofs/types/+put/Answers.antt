@@ -1,7 +1,16 @@
 use Rattle.std.proofs.Common.{[], ap, ◌∙◌}
 use Rattle.flick_texts.specs.TypeText.{mark_after, names_of, trees_of}
 use Rattle.flick_texts.proofs.Unions.{union_put}
+use Rattle.flick_texts.proofs.Arrays.{arrays_put}
 use Rattle.flick_texts.proofs.types.+put.Goals as goal
+
+pub put_type-returns-in_ok-put_all_elements-in-Arrays : goal.put_type-returns-in_ok-put_all_elements-in-Arrays
+put_type-returns-in_ok-put_all_elements-in-Arrays t c =
+    arrays_put c.put_type-in-Arrays.result (names_of (trees_of c.args.types.now)) c.args.ty.now
+    c.in-Arrays.item c.in-Arrays.count c.in-Arrays.within c.deref-in-Arrays.result.now
+    c.as_slice-in-Arrays.result.now c.args.out.now _ _ c.put_type-in-Arrays.new.out
+    c.in-Arrays.is c.deref-in-Arrays.ensures c.as_slice-in-Arrays.ensures
+    c.in_ok-put_elements-in-Arrays.ensures c.in_ok-put_all_elements-in-Arrays.ensures c.put_type-in-Arrays.ensures
 
 pub put_type-returns-in_ok-put_default-in-Union : goal.put_type-returns-in_ok-put_default-in-Union
 put_type-returns-in_ok-put_default-in-Union t c =

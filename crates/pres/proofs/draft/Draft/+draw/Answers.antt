@@ -7,7 +7,8 @@ use Rattle.pres.specs.Faces.{arms_at, choice}
 use Rattle.pres.specs.Made.{made_after}
 use Rattle.pres.specs.Offers.{face_of, sign_in}
 use Rattle.pres.specs.Drafts.{drawn, known}
-use Rattle.pres.proofs.Drawn.{both, overflows_more, grows_twice, field_left, field_nodes, field_ids, members_by, names_each, arm_drawable, other_drawable, arms_drawable_alone, arm_nodes, arm_room, arm_on, after_split, choice_arms, choice_nodes, made_split, node_after, drawn_as, after_overflows, next_overflows, last_overflows, on_ok, if_ok, if_err, handed_on}
+use Rattle.pres.proofs.Drawn.{both, overflows_more, grows_twice, field_left, field_nodes, field_ids, members_by, names_each, arm_drawable, other_drawable, arms_drawable_alone, arm_nodes, arm_room, arm_on, after_split, choice_arms, choice_nodes, made_split, node_after, drawn_as, after_overflows, next_overflows, last_overflows, on_ok, if_ok, if_err, handed_on, cause_last}
+use Rattle.pres.proofs.Arrayed.{arrayed_drawable, element_placed, none_yet, row_on, row_last, room_for_row, room_for_element}
 use Rattle.pres.proofs.draft.Draft.+draw.Goals as goal
 
 -- ---- fields
@@ -81,6 +82,66 @@ draw_arms-loop-i-preserved t c =
       arms = arm_on fs None arms c.loop-i.i _ _ _ _ _ _ _ _ c.loop-i-test.true c.index-arms-arms.is g
           (rw inv.same at c.in_ok-id.ensures.id) c.in_ok-put_arm.ensures inv.arms;
     }
+
+-- ---- arrays of arrays
+
+pub draw_arrays-draw_element-requires : goal.draw_arrays-draw_element-requires
+draw_arrays-draw_element-requires t c = (search (rules, the_lemmas), arrayed_drawable _ _ c.args.within.now c.requires)
+
+pub draw_arrays-loop-i-init : goal.draw_arrays-loop-i-init
+draw_arrays-loop-i-init t c =
+    let none = none_yet (aoi.seen c.args.item.now) c.args.within.now in record {
+      grows = rw none c.in_ok-element.ensures.grows;
+      element = rw none c.in_ok-element.ensures.element;
+    }
+
+pub draw_arrays-returns-in_err-element-clause-cause : goal.draw_arrays-returns-in_err-element-clause-cause
+draw_arrays-returns-in_err-element-clause-cause t c =
+    let e = c.in_err-element.field-0.0 in
+    handed_on _ e _ c.from_residual.ensures.1
+    (overflows_more _ _ e c.in_err-element.ensures.cause
+    (room_for_element (known c.args.self.now) (aoi.seen c.args.item.now) c.args.within.now c.args.count (drawn c.args.self.now)))
+
+pub draw_arrays-draw_row-requires : goal.draw_arrays-draw_row-requires
+draw_arrays-draw_row-requires t c = element_placed _ _ _ c.loop-i.invariant.element
+
+pub draw_arrays-loop-i-preserved : goal.draw_arrays-loop-i-preserved
+draw_arrays-loop-i-preserved t c =
+    let inv = c.loop-i.invariant in
+    let on = row_on (known c.args.self.now) (aoi.seen c.args.item.now) c.args.within.now c.loop-i.i _ _ _ _ _ _ _
+    c.loop-i-test.true refl inv.grows inv.element c.in_ok-id.ensures.grows c.in_ok-id.ensures.id in record {
+      grows = on.0;
+      element = on.1;
+    }
+
+pub draw_arrays-returns-in_err-id-clause-cause : goal.draw_arrays-returns-in_err-id-clause-cause
+draw_arrays-returns-in_err-id-clause-cause t c =
+    let e = c.in_err-id.field-0.0 in
+    handed_on _ e _ c.from_residual-in_err-id.ensures.1
+    (overflows_more _ _ e c.in_err-id.ensures.cause
+    (room_for_row (known c.args.self.now) (aoi.seen c.args.item.now) c.args.within.now c.loop-i.i c.args.count _ _ _
+    c.loop-i.invariant.grows))
+
+pub draw_arrays-returns-clause-grows : goal.draw_arrays-returns-clause-grows
+draw_arrays-returns-clause-grows t c =
+    let inv = c.loop-i.invariant in
+    let last = row_last (known c.args.self.now) (aoi.seen c.args.item.now) c.args.within.now c.loop-i.i c.args.count _ _ _
+    c.loop-i-test.false inv.grows inv.element in
+    on_ok _ _ _ (node_after _ _ _ _ _ _ last.1 last.0) c.draw_row-2.ensures.grows
+
+pub draw_arrays-returns-clause-id : goal.draw_arrays-returns-clause-id
+draw_arrays-returns-clause-id t c =
+    let inv = c.loop-i.invariant in
+    let last = row_last (known c.args.self.now) (aoi.seen c.args.item.now) c.args.within.now c.loop-i.i c.args.count _ _ _
+    c.loop-i-test.false inv.grows inv.element in
+    if_ok _ _ _ (λ id. drawn_as _ id _ _ last.1) c.draw_row-2.ensures.id
+
+pub draw_arrays-returns-clause-cause : goal.draw_arrays-returns-clause-cause
+draw_arrays-returns-clause-cause t c =
+    let inv = c.loop-i.invariant in
+    let last = row_last (known c.args.self.now) (aoi.seen c.args.item.now) c.args.within.now c.loop-i.i c.args.count _ _ _
+    c.loop-i-test.false inv.grows inv.element in
+    cause_last c.draw_row-2.result (drawn c.args.self.now) _ _ _ _ last.0.nodes c.draw_row-2.ensures.cause
 
 -- ---- a choice
 
