@@ -10,8 +10,6 @@ from languages import LANGUAGES
 
 LONGEST_FILE = 1_048_576
 LONGEST_LINE = 8_388_608
-MOST_LENGTHS = 1_024  # of an array, after one name of a CORBA file
-OUT_OF_MEMORY = "? memory"  # what the model says of a file over which the program ends with status 7, and writes nothing
 
 NUMBER = r"(0|[1-9][0-9]*)"
 GIOP = ("Short", "Magic", "Version", "Order", "Type", "Size", "Item", "Text")
@@ -86,34 +84,16 @@ def lines_of(octets):
     return [line for line in (line.removesuffix(b"\r") for line in octets.split(b"\n")) if line]
 
 
-def has_many_lengths(text):
-    """Whether a name of a CORBA file is followed by more than 1,024 lengths of an array."""
-    found, behind, within = 0, False, False
-    for token in LANGUAGES["corba"].token.findall(re.sub(r"(?m)^[ \t]*#.*$", "", text)):
-        if token.isspace() or token.startswith(("/*", "//")) or within and token not in "[]":
-            continue
-        if behind and token == ("]" if within else "["):
-            found, within = found + within, not within
-        else:
-            found, behind, within = 0, token[0].isalpha() or token[0] == "_", False
-        if found > MOST_LENGTHS:
-            return True
-    return False
-
-
-def wrong_end(status, errors, output, lines, front, text):
+def wrong_end(status, errors, output, lines):
     """Of a run over a file that is there, with an input that can be read and an output that can be written.
 
     Status 3 comes with the one line that refuses the file, and says that no other line was answered.
     Status 0 and 1 say that the work was done to the end of the input: as many answers as lines, and one
     that begins with `!` for 1 alone. 2 and 9 come by other words, 4, 5 and 6 by ends that fail, 8 by
-    more input than is given here. 7, out of memory, comes over a CORBA file in which a name is followed by
-    more than 1,024 lengths, with nothing written; else it is a difference, as nothing given here is large.
+    more input than is given here, and 7 where memory ends, which nothing here is large enough for.
     """
     if status < 0:
         return f"a status, and no end by signal {-status}"
-    if status == 7 and front == "corba" and has_many_lengths(text):
-        return "nothing written with status 7" if output or errors else None
     if status not in (0, 1, 3):
         return f"status 0, 1 or 3, and not {status}"
     if errors:

@@ -6,7 +6,7 @@ import sys
 TOP = os.path.dirname(os.path.dirname(os.path.dirname(os.path.abspath(__file__))))
 sys.path.insert(0, f"{TOP}/tests")
 import making  # noqa: E402
-from forms import NUMBER, OUT_OF_MEMORY  # noqa: E402
+from forms import NUMBER  # noqa: E402
 from sources import LONGEST_READ, UNREAD, generator, interfaces_of  # noqa: E402
 from text_rows import difference, run, wrong_count, wrong_make, wrong_stubs  # noqa: E402
 
@@ -39,8 +39,6 @@ def wrong_show(program, front, path, text, saying):
 
 def wrong_texts(program, front, back, path, text, saying, lines):
     """What is wrong with what each command writes; the lines are for `count`."""
-    if saying == OUT_OF_MEMORY:
-        return
     yield "show", wrong_show(program, front, path, text, saying)
     if saying:
         for words in (["make", front, back, path, "1", "1"], ["stubs", front, back, path], ["count", front, back, path]):

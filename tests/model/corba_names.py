@@ -14,8 +14,7 @@ from corba_scopes import Char, Entry, Octet, Offer, Operation, Raised, Scope, ro
 from corba_trees import Leaf, parts_of, placed, trees_of, words_of
 from values import Bool, Count, Enum, Number, String, Struct, Union, Void, under_name
 
-FAULTS = ("Unknown", "Twice", "CaseClash", "NotType", "NotConst", "Range", "Label", "Limit", "OutOfScope", "Oneway", "Memory")
-MOST_LENGTHS = 1024  # after one name; more are reported as out of memory, by no line
+FAULTS = ("Unknown", "Twice", "CaseClash", "NotType", "NotConst", "Range", "Label", "Limit", "OutOfScope", "Oneway")
 MOST_INTERFACES, MOST_OPERATIONS, MOST_LABELS, MOST_RAISED = 64, 256, 4096, 4095
 FIRST_PROGRAM = 0x20000000
 MOST_OCTETS = 1_048_576
@@ -130,8 +129,6 @@ class Resolver:
         if isinstance(tree, Leaf):
             return tree, ty
         identifier, *lengths = trees_of(tree)
-        if len(lengths) > MOST_LENGTHS:
-            self.fault("Memory", identifier.at)
         for n in reversed([self.length(each, scope) for each in lengths]):
             ty = row_of(ty, Count(n, exact=True))
         return identifier, ty
@@ -360,7 +357,7 @@ def resolved(trees):
         resolver.walk(trees_of(placed(tree, places))[0], resolver.file)
     if resolver.faults:
         _, fault, declaration = min(resolver.faults)
-        raise Refused("memory" if FAULTS[fault] == "Memory" else f"name {FAULTS[fault]} {declaration}")
+        raise Refused(f"name {FAULTS[fault]} {declaration}")
     return resolver.offer
 
 

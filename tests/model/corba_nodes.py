@@ -33,17 +33,26 @@ def messages_of(operation):
     return request, Union(Number(False, 32), dict(enumerate(answers)), None)
 
 
+def inner_rows(ty, ends):
+    """A type and the arrays within it, one within the other, from the outside in, up to what ends them."""
+    rows = [ty]
+    while isinstance(rows[-1], Array) and not is_row(rows[-1]) and not ends(rows[-1].element):
+        rows.append(rows[-1].element)
+    return rows
+
+
 class Sums:
-    """Sums over a type and all that it stands for, each made once."""
+    """Sums over a type and all that it stands for, each made once: those of arrays within one another from the inside out,
+    so that no call is as deep as they are."""
 
     def __init__(self):
         self.known = {}
 
     def of(self, what, ty):
-        key = what, id(ty)
-        if key not in self.known:
-            self.known[key] = getattr(self, what)(ty), ty
-        return self.known[key][0]
+        if (what, id(ty)) not in self.known:
+            for each in reversed(inner_rows(ty, lambda element: (what, id(element)) in self.known)):
+                self.known[what, id(each)] = getattr(self, what)(each), each
+        return self.known[what, id(ty)][0]
 
     def depth(self, ty):
         return 1 + max((self.of("depth", child) for child in children_of(ty)), default=0)
@@ -67,7 +76,8 @@ class Sums:
 
 def written(ty, named):
     """How many nodes a type has where it is written."""
-    return 1 + sum(written(child, named) for child in children_of(ty) if id(child) not in named)
+    *rows, last = inner_rows(ty, lambda element: id(element) in named)
+    return len(rows) + 1 + sum(written(child, named) for child in children_of(last) if id(child) not in named)
 
 
 def refusal_of(offer, back):

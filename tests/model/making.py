@@ -141,6 +141,13 @@ def text_of(ty):
 
 
 def meaning_of(ty):
+    told = ""
+    while isinstance(ty, Array) and not hasattr(ty.element, "name"):
+        told, ty = told + counted(ty, ""), ty.element  # arrays within one another are told one after the other
+    return told + innermost_of(ty)
+
+
+def innermost_of(ty):
     if isinstance(ty, Enum):
         return f"enum{{{','.join(f'{name}={n}' for name, n in ty.items)}}}"
     if isinstance(ty, Number):

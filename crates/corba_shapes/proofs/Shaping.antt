@@ -5,7 +5,7 @@ use Rattle.std.specs.List.{list_all}
 use Rattle.std.proofs.lemmas.Bool.{and_parts, and_from, lt-ltb}
 use Rattle.mint.specs.declared.kind.Count.{Count}
 use Rattle.mint.specs.declared.kind.Count.TheVariants.{Exactly, AtMost, Any}
-use Rattle.aoi.specs.Shapes.{Shape, array}
+use Rattle.aoi.specs.Shapes.{Shape, array, arrayed}
 use Rattle.aoi.specs.Sound.{is_sound_type, is_some_count, is_open}
 use Rattle.idl_names.specs.declared.uses.Use.{Use}
 use Rattle.idl_names.specs.declared.uses.Use.TheVariants.{Number, Declared}
@@ -31,7 +31,7 @@ use Rattle.corba_scopes.proofs.Standing.{IfFound, named_is}
 use Rattle.corba_shapes.specs.declared.forms.Core.{Core}
 use Rattle.corba_shapes.specs.declared.forms.Core.TheVariants as C
 use Rattle.corba_shapes.specs.declared.forms.Form.{Form}
-use Rattle.corba_shapes.specs.Forms.{type_of_meaning, type_of_entry, named_type, named_core, simple_core, number_core, kind_of, bounded, base_core, single, type_form, core_shape, rowed, arrayed, form_shape, is_row, core_tag, form_tag}
+use Rattle.corba_shapes.specs.Forms.{type_of_meaning, type_of_entry, named_type, named_core, simple_core, number_core, kind_of, bounded, base_core, single, type_form, core_shape, rowed, form_shape, is_row, core_tag, form_tag}
 use Rattle.corba_shapes.specs.Fields.{lengths_on}
 use Rattle.corba_shapes.proofs.Standing.{MeaningIs, ScopeIs}
 use Rattle.corba_shapes.proofs.Lasting.{is_plain, plain_sound}

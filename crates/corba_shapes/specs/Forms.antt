@@ -5,7 +5,7 @@ use Rattle.mint.specs.declared.kind.Kind.TheVariants as kind
 use Rattle.mint.specs.declared.kind.Count.{Count}
 use Rattle.mint.specs.declared.kind.Count.TheVariants.{AtMost, Any}
 use Rattle.aoi.specs.declared.faults.NameFault.TheVariants.{Unknown, NotType, OutOfScope}
-use Rattle.aoi.specs.Shapes.{Shape, text, array}
+use Rattle.aoi.specs.Shapes.{Shape, text, array, arrayed}
 use Rattle.idl_names.specs.declared.uses.Tag.{Tag}
 use Rattle.idl_names.specs.declared.uses.Tag.TheVariants as tag
 use Rattle.idl_names.specs.declared.uses.Use.{Use}
@@ -111,11 +111,6 @@ core_shape (C.Text c) = text c
 abbrev pub rowed : Shape → List Count → Shape
 rowed s [] = s
 rowed s (c ∷ cs) = rowed (array s c) cs
-
--- arrays of arrays, the outermost first
-abbrev pub arrayed : Shape → List Count → Shape
-arrayed s [] = s
-arrayed s (c ∷ cs) = array (arrayed s cs) c
 
 -- the plain tree of a type with the lengths of an array
 abbrev pub form_shape : Form → List Count → Shape

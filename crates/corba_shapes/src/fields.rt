@@ -6,18 +6,13 @@ ghost use Rattle.idl_names.specs.Answers.{Gives};
 ghost use Rattle.corba_shapes.specs.Forms.{form_shape};
 ghost use Rattle.corba_shapes.specs.Fields.{lengths_on, placed_on, fields_on, members_on};
 
-use crate::forms::{Counts, Form, form_ty, type_form};
-use crate::state::want;
-use aoi::{Field, Fields, NameErr};
+use crate::forms::{Form, form_ty, type_form};
+use aoi::{Counts, Field, Fields, NameErr};
 use corba_decls::{Declarator, Dimension, Member};
 use corba_scopes::{Meaning, Scopes, innermost};
 use kit_base::{Name, NoMemory};
 use mint::kind::Count;
 use std::alloc::Global;
-
-/// The most lengths after one name. They nest the type as deep, and types are walked and dropped by
-/// recursion: for more of them the stack may not suffice, and that is reported as out of memory.
-const MOST_LENGTHS: usize = 1024;
 
 /// The lengths of an array, the outermost first.
 pub(crate) fn lengths(
@@ -29,9 +24,6 @@ pub(crate) fn lengths(
 ) -> Result<Counts, NameErr>
     ensures { Gives (λ x. x) result (lengths_on scopes.now env.now d [] list.now) }
 {
-    if list.len() > MOST_LENGTHS {
-        return Err(want());
-    }
     let mut counts = Counts::new(alloc);
     for dimension in list {
         let n = scopes.length(alloc, env, d, &dimension.length)?;

@@ -8,17 +8,14 @@ ghost use Rattle.corba_shapes.specs.Forms.{simple_core, bounded, base_core, sing
 ghost use Rattle.corba_shapes.specs.Forms.{core_shape, rowed, form_shape};
 ghost use Rattle.corba_shapes.specs.Forms.{is_row, core_tag, core_text, form_tag, form_text};
 
-use aoi::{NameErr, NameFault, Ty};
+use aoi::{Counts, NameErr, NameFault, Ty};
 use corba_decls::{Base, Int, IntSize, Simple, TypeName, TypeNode};
 use corba_scopes::{Entry, Meaning, Scopes};
 use idl_exprs::{Expr, ScopedName};
-use idl_names::{Tag, Use, array_of, tag_of_use, ty_of_use};
-use kit_base::{Listed, Name, NoMemory};
+use idl_names::{Tag, Use, array_of, arrays_of, tag_of_use, ty_of_use};
+use kit_base::{Name, NoMemory};
 use mint::kind::{Count, Kind};
 use std::alloc::Global;
-
-/// Counts, in order.
-pub type Counts = Listed<Count>;
 
 /// A type that is neither a sequence nor an array.
 #[derive(Clone, Copy, Debug, PartialEq, Eq)]
@@ -215,9 +212,10 @@ fn rowed(alloc: Global, ty: Ty, rows: &[Count]) -> Result<Ty, NoMemory>
 pub fn form_ty(alloc: Global, form: &Form, lengths: &[Count]) -> Result<Ty, NoMemory>
     ensures { IfOk result (λ t. seen t ≡ form_shape form.now lengths.now) }
 {
+    let ty = rowed(alloc, core_ty(form.core), form.rows.as_slice())?;
     match lengths {
-        [count, rest @ ..] => array_of(alloc, form_ty(alloc, form, rest)?, *count),
-        [] => rowed(alloc, core_ty(form.core), form.rows.as_slice()),
+        [count, within @ ..] => arrays_of(alloc, ty, *count, within),
+        [] => Ok(ty),
     }
 }
 
