@@ -115,7 +115,7 @@ passed b = b
 ]
 """})
 NEXT = """next: what it stands on, and its place among the layers, in crates.txt; ./dev {name} checks it;
-its row in docs/ARCHITECTURE.md, its section in docs/PROOFS.md, and what docs/ADDING.md asks of {of}"""
+its row in docs/ARCHITECTURE.md, its section in docs/PROOFS.md, and what docs/CONTRIBUTING.md asks of {of}"""
 
 
 def make(kind, name):
