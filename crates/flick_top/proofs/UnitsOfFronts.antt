@@ -1,6 +1,6 @@
 -- A text has a unit that is sound, or a saying, and one alone, whatever its front end.
 use Rattle.std.proofs.Common.{◌≡◌, ◌⊎◌, inl, inr, ℕ, ◌≤◌, List, [], ◌∷◌, ◌++◌, length, Some, Result, Ok, Err, refl, sym, ap, ◌∙◌, subst, arith}
-use Rattle.std.specs.Prelude.{codes}
+use Rattle.std.specs.Prelude.{IfOk, codes}
 use Rattle.idl_lex.specs.declared.kinds.Front.{Front}
 use Rattle.idl_lex.specs.declared.kinds.Front.TheVariants as front
 use Rattle.idl_lex.specs.declared.kinds.Token.{Token}
@@ -24,6 +24,7 @@ use Rattle.mig_syntax.proofs.StatementsRead.{heading_is}
 use Rattle.mig_syntax.proofs.Fronts.{one_tree_only as mig_one_tree, decided as mig_decided}
 use Rattle.aoi.specs.declared.faults.NameErr.{NameErr}
 use Rattle.aoi.specs.Plain.{PlainUnit, IsSoundPlain}
+use Rattle.aoi.specs.Units.{Parts}
 use Rattle.front_onc.specs.Resolved.{resolved as onc_resolved}
 use Rattle.front_onc.proofs.Derived.{derived_whole as onc_whole}
 use Rattle.front_onc.proofs.Whole.{resolved_sound as onc_sound}
@@ -32,7 +33,9 @@ use Rattle.front_corba.proofs.Derived.{derived_whole as corba_whole}
 use Rattle.front_corba.proofs.Whole.{resolved_sound as corba_sound}
 use Rattle.front_mig.specs.Resolved.{resolved as mig_resolved}
 use Rattle.front_mig.proofs.Whole.{resolved_sound as mig_sound}
+use Rattle.flick_top.specs.declared.saying.Saying.{Saying}
 use Rattle.flick_top.specs.declared.saying.Saying.TheVariants as sayings
+use Rattle.flick_top.specs.File.{plainly}
 use Rattle.flick_top.specs.Fronts.{Read, in_words, Says, TokensSay, UnitOf}
 
 -- what was read is a sound unit, if it is a unit
@@ -168,3 +171,12 @@ text_has k text (inr (fault, is)) = (Err (sayings.Lex fault), inr (fault, is, re
 
 pub unit_has : (k : Front) (text : List ℕ) → Has k text
 unit_has k text = text_has k text (text_decided k text)
+
+-- ---- as a clause of calls
+
+-- the unit of a tree that tokens have is what the tokens say
+pub tree-says : {T E : Type 0} (Derives : T → List Token → Type 0) (FailsAt : List Token → ℕ → Type 0)
+    (resolved : T → Result PlainUnit NameErr) (tokens : List Token) (tree : T) (x : Result (Result Parts Saying) E) → Derives tree tokens
+    → IfOk x (λ read. plainly read ≡ in_words (resolved tree)) → IfOk x (λ read. Says Derives FailsAt resolved tokens (plainly read))
+tree-says Derives FailsAt resolved tokens tree (Ok read) derives is = inl (tree, derives, is)
+tree-says Derives FailsAt resolved tokens tree (Err e) derives is = tt
