@@ -25,7 +25,7 @@ class Scopes:
     """What is declared where: paths of names, each with its kind and its node."""
 
     def __init__(self, nodes):
-        self.declared, self.bases = {}, {}
+        self.declared, self.bases, self.known = {}, {}, {}
         self.enter(nodes, None)
 
     def enter(self, nodes, unit):
@@ -39,22 +39,26 @@ class Scopes:
                     self.bases[inner] = [(use, node.scope) for use in node.uses]
                 self.enter(node.children, unit or (node if node.kind != "module" else None))
 
-    def member(self, path, name, depth=0):
+    def member(self, path, name):
         """The path of a name in a scope or in its bases."""
         if (*path, name) in self.declared:
             return (*path, name)
-        for use, scope in self.bases.get(path, []) if depth < 32 else []:
-            base = self.find(use.names, use.is_absolute, scope, depth + 1)
-            if base and base != path and (found := self.member(base, name, depth + 1)):
+        if (path, name) in self.known:  # or it is being sought: bases may meet again and again
+            return self.known[path, name]
+        self.known[path, name] = None
+        for use, scope in self.bases.get(path, []):
+            base = self.find(use.names, use.is_absolute, scope)
+            if base and base != path and (found := self.member(base, name)):
+                self.known[path, name] = found
                 return found
         return None
 
-    def find(self, names, is_absolute, scope, depth=0):
+    def find(self, names, is_absolute, scope):
         """The path that a name refers to, or nothing."""
         for count in [0] if is_absolute else range(len(scope), -1, -1):
-            path = self.member(scope[:count], names[0], depth)
+            path = self.member(scope[:count], names[0])
             for name in names[1:]:
-                path = path and self.member(path, name, depth)
+                path = path and self.member(path, name)
             if path:
                 return path
         return None
