@@ -114,6 +114,8 @@ def without_comments(text):
             kept += "" if inside else front + " " * bool(found)
             inside = inside != bool(found)
         lines.append(kept)
+    if inside:
+        raise Stop("a comment is not closed")
     return "\n".join(lines)
 
 
