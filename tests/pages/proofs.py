@@ -8,7 +8,7 @@ from sources import TOP, sums
 
 HEAD = """# What is proved, and what shows its teeth
 
-`tests/print_docs --write` prints this page from the sources: the doc line of each call, the names of its clauses, the comments of definitions, and the planted bugs of `tests/bugs`. It has the laws, and the calls that another crate makes, but not those with a single clause in which no bug is planted. A law is a function that does nothing and promises a fact.
+`tests/print_docs --write` prints this page from the sources: the doc line of each call, the names of its clauses, the comments of definitions, and the planted bugs of `tests/bugs`. It has the laws, and the calls that another crate makes, but not those with a single clause in which no bug is planted. A law is a function that does nothing and promises a fact. Names of clauses mean the same everywhere (`docs/CONTRIBUTING.md`, "Names of clauses").
 
 - **A bug** stands in double quotes, with the clause that it breaks where that is known. The prover refused it when it was last tried, which may be before the code around it last changed (`tests/names --bugs`). What stands after "not tried since" has no such mark. `tests/bugs/run NAME` tries those of a crate.
 - **An edit** stands in `must-fail/` of its crate, and the gate tries it each time.
@@ -152,7 +152,7 @@ def section(crate):
     yield from ("", f"## {crate}", "", f"{sources.purpose(crate)}.", "", "| Call | What it does or gives | Clauses | A wrong body that is refused |", "|---|---|---|---|")
     for call in calls:
         doc = re.sub(r"^Does nothing\. (It states that|States that|It says that)?", "", call.doc).strip()
-        doc = doc[:1].upper() + doc[1:]
+        doc = re.sub(r"\[(`\w+`)\]", r"\1", doc[:1].upper() + doc[1:])
         yield f"| `{call.shown()}` | {cell(sources.sentence(doc))} | {clauses_told(call)} | {cell(told(by.get((call.owner, call.name), [])))} |"
         top = call if (crate, call.name) == TOP_CALL else top
     if top:
