@@ -32,7 +32,7 @@ HEAD = """# What has to be believed
 
 Nobody has to read a proof to rely on Flick: the prover checks them. What has to be read is the statement, and the definitions that its words stand for. `tests/print_docs --write` prints this page: it follows the names in the definitions down from the clauses of `flick`.
 
-Begin with `flick_top/specs/Statement.antt`, which is the whole promise. Then read what you want to be sure of. A definition is believed to say what its comment says, and what the standard says that it names. No proof can check that. The Python model in `tests/model` is a second reading of the same standards, written without these definitions, and `tests/compare` holds the program against it.
+Begin with `flick_top/specs/Statement.antt`, which is the whole promise. Then read what you want to be sure of. A definition is believed to mean its comment, and the standard that it names. No proof can check that. The Python model in `tests/model` is a second reading of the same standards, written without these definitions, and `tests/compare` holds the program against it.
 
 You also rely on the prover and the compiler of the toolchain, on the definitions and statements of its `std` and its other ports (`docs/SECURITY.md`), on the C library, and on the last crate, `flick_cli`, which hands the process's words, input, output and files to `flick`.
 """

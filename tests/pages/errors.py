@@ -16,9 +16,9 @@ A file is refused with one line that begins with `?`, and status 3. The first fa
 
 AT is the place of an octet, counted from 0. LINE is a line of the file and DECL a declaration, both counted from 1, declarations in the order in which they begin. `docs/COMMANDS.md` ("FRONT") says what a declaration is in each language.
 
-`./explain` says more. With the words of the run, and what it wrote on standard input, it gives file, line, column and name of a `?`. With `--lines INPUT` it also gives the path of the first misfit after `! value`, the field and octets after `! body`, and after `? replies LINE` what is wrong with the line of REPLIES (`docs/COMMANDS.md`).
+`./explain` shows more. With the words of the run, and what it wrote on standard input, it gives file, line, column and name of a `?`. With `--lines INPUT` it also gives the path of the first misfit after `! value`, the field and octets after `! body`, and after `? replies LINE` what is wrong with the line of REPLIES (`docs/COMMANDS.md`).
 
-`tests/print_docs --write` prints this page. The first sentence of an entry is the doc line of the variant in the code, the next ones are what `./explain` says. The examples are rows of `tests/explain`, `tests/files` and `tests/lines`, which `tests/run` replays: there are more of them.
+`tests/print_docs --write` prints this page. The first sentence of an entry is the doc line of the variant in the code, the next ones are those of `./explain`. The examples are rows of `tests/explain`, `tests/files` and `tests/lines`, which `tests/run` replays: there are more of them.
 """
 # Sentences of what no variant stands for; and what is worth knowing besides.
 SAID = {"! long": "The line is above its limit and was not read, or its message would be above the limit.", "! json": "The line is not JSON.", "! hex": ""}
