@@ -23,6 +23,9 @@ AT is the place of an octet, counted from 0. LINE is a line of the file and DECL
 # Sentences of what no variant stands for; and what is worth knowing besides.
 SAID = {"! long": "The line is above its limit and was not read, or its message would be above the limit.", "! json": "The line is not JSON.", "! hex": ""}
 BESIDES = {
+    "? lex Directive": "`./bring-in` runs `cpp` over the file, and lists each step (`docs/FILES.md`).",
+    "? name Unknown": "`./bring-in` declares names of C headers, and moves declarations up (`docs/FILES.md`). In a CORBA file a name of another module wants its scope, as in `M::name`.",
+    "? name Twice": "An attribute `x` has the names `_get_x` and `_set_x` too.",
     "? syntax": "`docs/GRAMMAR.md` has the grammar; a word that it quotes is not a name.",
     "? name Range": "A bound is at least 0, in a CORBA or MIG file 1; lengths and bounds are at most 2^32 - 1. A shift is by 0 to 63, and an item has 32 signed bits. The base, the ids and 100 of a subsystem are at most 2^31 - 1 together.",
     "? bind Deep": "A request adds a level around parameters; an answer and a reply add theirs around a result.",
