@@ -15,6 +15,8 @@ HEAD = """# What is proved, and what shows its teeth
 - No clause says that memory is there: a body that always reports that memory ran out satisfies its clauses. Rows and tests show that calls succeed.
 """
 TOP_CALL = ("flick_top", "flick")
+# What stands around the conclusion of a clause.
+AROUND = re.compile(r"^(?:(?:IfOk|IfSome|IfErr) \S+ \(λ [^.]*\. |(?:OnOk|OnErr|IfNone) \S+ \(|(?:IfOk|IfSome) result (?=[A-Z])|\()")
 SHOWN = 1  # bugs of a row
 MORE = 2  # bugs of functions inside a crate
 
@@ -31,12 +33,20 @@ def quoted(bug, of=""):
     return f'"{bug["bug"]}"' + (f" ({where})" if where else "")
 
 
-def clauses_told(call):
-    """The names of the clauses in order; one without a name stands alone."""
-    names = [name for name, _, _ in call.clauses if name]
+def clauses_told(call, told):
+    """The clauses in order: each name with the comment of its definition, where that was not told before; or how many have no name."""
     if call.is_law:
-        return "a law"
-    return ", ".join(f"`{name}`" for name in names) or ("its only clause" if len(call.clauses) == 1 else f"its {len(call.clauses)} clauses")
+        said = [each.comment for _, term, _ in call.clauses if (each := head_of(call, term))]
+        return f"a law: {'; '.join(said)}" if len(" ".join(said).split()) > len(call.doc.split()) else "a law"
+    if not any(name for name, _, _ in call.clauses):
+        return "its only clause" if len(call.clauses) == 1 else f"its {len(call.clauses)} clauses"
+    shown = []
+    for name, term, _ in call.clauses:
+        definition = head_of(call, term)
+        is_new = definition and definition.comment and definition.name not in told
+        shown.append(f"`{name}`: {definition.comment}" if is_new else f"`{name}`")
+        told.update([definition.name] if is_new else [])
+    return "; ".join(shown) if any(": " in each for each in shown) else ", ".join(shown)
 
 
 def bugs_by_call(crate):
@@ -92,10 +102,13 @@ def others(crate):
         yield f"Not tried since: {', '.join(map(quoted, untried))}."
 
 
-def head_of(path, term):
-    """The definition that a clause begins with, if its first word is one."""
-    word = re.match(r"[^\s(){},;.]+", term)
-    return sources.defined(path, word[0]) if word else None
+def head_of(call, term):
+    """The definition that a clause concludes with, where it is a statement and no term: its name begins with a capital letter."""
+    term, before = term.rsplit("→ ", 1)[-1], None
+    while term != before:
+        before, term = term, AROUND.sub("", term)
+    name = re.match(r"[A-Z]\w*", term)
+    return sources.defined(call.path, name[0]) if name else None
 
 
 def comment_in(lines, n):
@@ -111,7 +124,7 @@ def clause_rows(call):
     """The clauses of the top call: those of one definition together, with its comment or the clause itself, and the fields of a record."""
     rows = {}
     for name, term, _ in call.clauses:
-        definition = head_of(call.path, re.sub(r"^.*→ ", "", term)) or head_of(call.path, term)
+        definition = head_of(call, term)
         key = definition.comment if definition else f"`{term}`"
         rows.setdefault(key, ([], definition))[0].append(f"`{name}`")
     for said, (names, definition) in rows.items():
@@ -138,23 +151,25 @@ def top_table(call):
     yield from (f"| {names} | {cell(said)} |" for names, said in clause_rows(call))
 
 
+def is_top(call):
+    return (call.crate, call.name) == TOP_CALL
+
+
 def section(crate):
     """The section of a crate, or nothing where it promises nothing to others."""
     calls = [call for call in sources.calls(crate) if sources.is_given(call) and (call.is_law or sources.is_used(call))]
-    if (crate, TOP_CALL[1]) == TOP_CALL:
-        calls = [call for call in sources.calls(crate) if call.name == TOP_CALL[1] or call.is_law and sources.is_given(call)]
+    if crate == TOP_CALL[0]:
+        calls = [call for call in sources.calls(crate) if is_top(call) or call.is_law and sources.is_given(call)]
     if not calls:
         return
-    by, top = bugs_by_call(crate), None
-    calls = [call for call in calls if call.is_law or len(call.clauses) > 1 or (call.owner, call.name) in by]
-    if not calls:
-        return
+    by, top, told_of = bugs_by_call(crate), None, {"NoneFell"}
+    calls = [call for call in calls if call.is_law or len(call.clauses) > 1 or (call.owner, call.name) in by] or calls
     yield from ("", f"## {crate}", "", f"{sources.purpose(crate)}.", "", "| Call | What it does or gives | Clauses | A wrong body that is refused |", "|---|---|---|---|")
     for call in calls:
         doc = re.sub(r"^Does nothing\. (It states that|States that|It says that)?", "", call.doc).strip()
         doc = re.sub(r"\[(`\w+`)\]", r"\1", doc[:1].upper() + doc[1:])
-        yield f"| `{call.shown()}` | {cell(sources.sentence(doc))} | {clauses_told(call)} | {cell(told(by.get((call.owner, call.name), [])))} |"
-        top = call if (crate, call.name) == TOP_CALL else top
+        yield f"| `{call.shown()}` | {cell(sources.sentence(doc))} | {'below' if is_top(call) else cell(clauses_told(call, told_of))} | {cell(told(by.get((call.owner, call.name), [])))} |"
+        top = call if is_top(call) else top
     if top:
         yield from top_table(top)
     notes = [*inside(by, {(call.owner, call.name) for call in calls}), *of_definitions(crate), *others(crate)]
