@@ -51,9 +51,10 @@ def crate_names():
 
 @functools.lru_cache(maxsize=None)
 def purpose(crate):
-    """What a crate is: the first sentence of its README."""
-    paragraph = text_of(f"crates/{crate}/README.md").split("\n\n")[1]
-    return sentence(paragraph)
+    """What a crate is: the first sentence of its README, or nothing where it has none."""
+    path = f"crates/{crate}/README.md"
+    paragraphs = text_of(path).split("\n\n") if os.path.exists(f"{TOP}/{path}") else []
+    return sentence(paragraphs[1]) if len(paragraphs) > 1 else ""
 
 
 # ---- functions
