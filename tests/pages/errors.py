@@ -21,7 +21,8 @@ AT is the place of an octet, counted from 0. LINE is a line of the file and DECL
 `tests/print_docs --write` prints this page. The first sentence of an entry is the doc line of the variant in the code, the next ones are those of `./explain`. The examples are rows of `tests/explain`, `tests/files` and `tests/lines`, which `tests/run` replays: there are more of them.
 """
 # Sentences of what no variant stands for; and what is worth knowing besides.
-SAID = {"! long": "The line is above its limit and was not read, or its message would be above the limit.", "! json": "The line is not JSON.", "! hex": ""}
+SAID = {"! long": "The line is above its limit and was not read, or its message would be above the limit.", "! json": "The line is not JSON.", "! hex": "",
+        "? syntax": "The definition that begins on line LINE has no tree.", "? replies": "Line LINE of the file, counted from 1 over all lines, gives no reply."}
 BESIDES = {
     "? lex Directive": "`./bring-in` runs `cpp` over the file, and lists each step (`docs/FILES.md`).",
     "? name Unknown": "`./bring-in` declares names of C headers, and moves declarations up (`docs/FILES.md`). In a CORBA file a name of another module wants its scope, as in `M::name`.",
@@ -106,6 +107,8 @@ def short(text):
     """A text on one line in backquotes, where it is short enough."""
     if not isinstance(text, str) or not text.strip() or "`" in text or not text.isprintable() and "\n" not in text:
         return ""
+    if "#" in text and "\n" in text.strip():
+        return ""
     line = " ".join(text.split())
     return f"`{line}`" if len(line) <= LONGEST else ""
 
@@ -130,11 +133,11 @@ def told_files():
         for language in LANGUAGES:
             for _, listed in rows(f"{folder}/{language}.json"):
                 for row in listed:
-                    if row["answer"] and not re.search(r"\b(before|hides|fault|faults)\b", row["name"]):
-                        pair = (row["name"], short(row["file"]))
-                        listed_here = found.setdefault(answer_words(row["answer"]), {}).setdefault(language, [])
-                        if pair not in listed_here:
-                            listed_here.append(pair)
+                    if row["answer"] and not re.search(r"\b(before|hides|faults?|answer)\b", row["name"]):
+                        name, text = row["name"], short(row["file"])
+                        pairs = found.setdefault(answer_words(row["answer"]), {}).setdefault(language, [])
+                        if all(name != other and (not text or text != shown) for other, shown in pairs):
+                            pairs.append((name, text))
     return found
 
 
@@ -213,12 +216,12 @@ def page():
     saying, record, message = variants("saying"), variants("record"), variants("message")
     entries = [(answer, place, saying[variant], []) for answer, _, variant, place in FILE]
     entries += [(f"? lex {word}", "AT", doc, page.of_word("lex_cause", word)) for word, doc in variants("lex").items()]
-    entries += [("? syntax", "LINE", saying["Syntax"], [])]
-    entries += [(f"? name {word}", "DECL", doc, page.of_word("name_cause", word) or page.of_word("number_cause", word)) for word, doc in variants("name").items()]
+    entries += [("? syntax", "LINE", SAID["? syntax"], [])]
+    entries += [(f"? name {word}", "DECL", re.sub(r"^It ", "The name ", doc), page.of_word("name_cause", word) or page.of_word("number_cause", word)) for word, doc in variants("name").items()]
     entries += [(f"? bind {word}", "", doc, page.of_word("bind_cause", word)) for word, doc in variants("bind").items()]
     group(out, page, "FILE is refused", entries)
     group(out, page, "REPLIES is refused (`serve`)", [
-        (answer, place, saying[variant], GIVEN if variant == "WrongReply" else []) for answer, _, variant, place in REPLIES])
+        (answer, place, SAID.get(answer) or saying[variant], GIVEN if variant == "WrongReply" else []) for answer, _, variant, place in REPLIES])
     group(out, page, "A record is refused (`marshal`, `count`, `reply`)", [
         (answer, place, SAID.get(answer) or record[variant], refusals(*OF_RECORDS[answer])) for answer, _, variant, place in RECORDS])
     entries = [("! hex", "", SAID["! hex"], refusals("HEX"))]
