@@ -17,6 +17,7 @@ HEAD = """# What is proved, and what shows its teeth
 TOP_CALL = ("flick_top", "flick")
 # What stands around the conclusion of a clause.
 AROUND = re.compile(r"^(?:(?:IfOk|IfSome|IfErr) \S+ \(λ [^.]*\. |(?:OnOk|OnErr|IfNone) \S+ \(|(?:IfOk|IfSome) result (?=[A-Z])|\()")
+COMMON = ("NoneFell", "Gives")  # definitions that many clauses cite, which docs/CONTRIBUTING.md tells
 SHOWN = 1  # bugs of a row
 MORE = 2  # bugs of functions inside a crate
 
@@ -38,13 +39,14 @@ def clauses_told(call, told):
     if call.is_law:
         said = [each.comment for _, term, _ in call.clauses if (each := head_of(call, term))]
         return f"a law: {'; '.join(said)}" if len(" ".join(said).split()) > len(call.doc.split()) else "a law"
-    if not any(name for name, _, _ in call.clauses):
-        return "its only clause" if len(call.clauses) == 1 else f"its {len(call.clauses)} clauses"
+    if len(call.clauses) > 1 and not any(name for name, _, _ in call.clauses):
+        return f"its {len(call.clauses)} clauses"
     shown = []
     for name, term, _ in call.clauses:
         definition = head_of(call, term)
         is_new = definition and definition.comment and definition.name not in told
-        shown.append(f"`{name}`: {definition.comment}" if is_new else f"`{name}`")
+        named = f"`{name}`" if name else "its only clause" if len(call.clauses) == 1 else "a clause"
+        shown.append(f"{named}: {definition.comment}" if is_new else named)
         told.update([definition.name] if is_new else [])
     return "; ".join(shown) if any(": " in each for each in shown) else ", ".join(shown)
 
@@ -162,7 +164,7 @@ def section(crate):
         calls = [call for call in sources.calls(crate) if is_top(call) or call.is_law and sources.is_given(call)]
     if not calls:
         return
-    by, top, told_of = bugs_by_call(crate), None, {"NoneFell"}
+    by, top, told_of = bugs_by_call(crate), None, {*COMMON}
     calls = [call for call in calls if call.is_law or len(call.clauses) > 1 or (call.owner, call.name) in by] or calls
     yield from ("", f"## {crate}", "", f"{sources.purpose(crate)}.", "", "| Call | What it does or gives | Clauses | A wrong body that is refused |", "|---|---|---|---|")
     for call in calls:
