@@ -6,7 +6,7 @@ import sources
 from sources import TOP
 
 sources.sys.setrecursionlimit(100_000)
-STATEMENT, TURN = "crates/flick_top/specs/Statement.antt", "crates/flick_top/specs/Outside.antt"
+STATEMENT, OUTSIDE = "crates/flick_top/specs/Statement.antt", "crates/flick_top/specs/Outside.antt"
 CALL = "crates/flick_top/src/top.rt"
 VERBS, COMING, ANSWER = "crates/flick_lines/specs/Verbs.antt", "crates/flick_top/specs/Coming.antt", "crates/flick_top/specs/Answer.antt"
 FRONTS, FILE = "crates/flick_top/specs/Fronts.antt", "crates/flick_top/specs/File.antt"
@@ -71,7 +71,7 @@ def lines_of(found):
 def promise():
     """What the clauses of the top call and its laws name."""
     named = [sources.defined(CALL, word) for word in sources.imports(CALL)[0]]
-    return [*sources.definitions(STATEMENT), *sources.definitions(TURN), *(each for each in named if each)]
+    return [*sources.definitions(STATEMENT), *sources.definitions(OUTSIDE), *(each for each in named if each)]
 
 
 def by_import():

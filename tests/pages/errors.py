@@ -41,15 +41,19 @@ FILE = (("? file", "saying", "NoFile", ""), ("? size", "saying", "TooLarge", "")
 REPLIES = (("? replies file", "saying", "NoReplies", ""), ("? replies size", "saying", "LargeReplies", ""), ("? replies", "saying", "WrongReply", "LINE"))
 RECORDS = (("! long", "", "", ""), ("! json", "", "", ""), ("! request", "record", "Request", ""), ("! op", "record", "Op", ""),
            ("! head", "record", "Head", ""), ("! value", "record", "Shape", ""))
-ENUMS = {"lex": ("idl_lex/src/lexing.rt", "LexErr"), "name": ("aoi/src/faults.rt", "NameFault"), "bind": ("pres/src/errors.rt", "BindErr"),
-         "head": ("wire_def/src/fault.rt", "HeadErr"), "body": ("wire_def/src/fault.rt", "FaultKind"),
-         "saying": ("flick_top/src/saying.rt", "Saying"), "record": ("json_shape/src/errors.rt", "RecordErr"), "message": ("flick_engine/src/errors.rt", "MessageErr")}
+# The enums of the program, each by its crate and a variant that it has.
+ENUMS = {"lex": ("idl_lex", "OpenComment"), "name": ("aoi", "CaseClash"), "bind": ("pres", "Heavy"), "head": ("wire_def", "Magic"), "body": ("wire_def", "OverBound"),
+         "saying": ("flick_top", "WrongReply"), "record": ("json_shape", "Op"), "message": ("flick_engine", "NoInterface")}
 
 
 def variants(enum):
     """The variants of an enum of the program with their doc lines, but for out of memory."""
-    path, name = ENUMS[enum]
-    body = re.search(rf"pub enum {name} \{{\n(.*?)\n\}}", sources.text_of(f"crates/{path}"), re.S)[1]
+    crate, variant = ENUMS[enum]
+    texts = (sources.sums.content(path) for path in sorted(glob.glob(f"{TOP}/crates/{crate}/src/**/*.rt", recursive=True)))
+    bodies = [body for text in texts for body in re.findall(r"^pub enum \w+ \{\n(.*?)\n\}", text, re.S | re.M) if re.search(rf"^    {variant}\b", body, re.M)]
+    if not bodies:
+        raise SystemExit(f"tests/pages/errors.py: no enum of {crate} has the variant {variant}")
+    body = bodies[0]
     found, doc = {}, []
     for line in body.split("\n"):
         if line.strip().startswith("///"):

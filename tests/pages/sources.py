@@ -10,7 +10,6 @@ sys.path.insert(0, f"{TOP}/tests/bugs")
 import sums  # noqa: E402
 
 CLAUSE = re.compile(r"^ *ensures (?:(\w+) )?\{")
-DECLARES = re.compile(r"(?:pub )?(?:abbrev |unfoldable )?(?:abbrev|unfoldable|record|data|relation)?(?: ?pub)? ?(\S+)")
 
 
 @functools.lru_cache(maxsize=None)
