@@ -14,7 +14,7 @@ HEAD = """# What the program says when it refuses
 
 A file is refused with one line that begins with `?`, and status 3. The first fault of the file is reported. A line of the input is refused with one line that begins with `!`. The lines after it are still answered, and the status at the end is 1. `docs/COMMANDS.md` ("Status") gives the cause of each status.
 
-AT is the place of an octet, counted from 0. LINE is a line of the file and DECL a declaration, both counted from 1, declarations in the order in which they begin. `docs/COMMANDS.md` ("FRONT") says what a declaration is in each language.
+AT is the place of an octet, counted from 0. LINE is a line of the file and DECL a declaration, both counted from 1, declarations in the order in which they begin. `docs/COMMANDS.md` ("FRONT") defines a declaration in each language.
 
 `./explain` shows more. With the words of the run, and what it wrote on standard input, it gives file, line, column and name of a `?`. With `--lines INPUT` it also gives the path of the first misfit after `! value`, the field and octets after `! body`, and after `? replies LINE` what is wrong with the line of REPLIES (`docs/COMMANDS.md`).
 
