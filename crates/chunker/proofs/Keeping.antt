@@ -66,7 +66,7 @@ others-append (Widened os k ∷ a) b = ap (λ (l : List Step). Widened os k ∷ 
 others-append (Copied os ∷ a) b = ap (λ (l : List Step). Copied os ∷ l) (others-append a b)
 others-append (Patched at sub order ∷ a) b = ap (λ (l : List Step). Patched at sub order ∷ l) (others-append a b)
 
-met-append : (a b : List Step) → met (a ++ b) ≡ met a + met b
+pub met-append : (a b : List Step) → met (a ++ b) ≡ met a + met b
 met-append [] b = let none : met b ≡ 0 + met b = omega arith in none
 met-append (Room n ∷ a) b = met-append a b
 met-append (Pad x ∷ a) b = let e = met-append a b in omega (arith, e)
