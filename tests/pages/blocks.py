@@ -4,10 +4,9 @@
 
 usage     the page that `flick --help` writes
 session   FOLDER WORDS || WORDS..: of the transcript of a folder of examples/, the commands that have these words, run from the top
-octets    FORMAT/FILE WHAT || WHAT..: rows of vectors/, by what they are of, each with its interface file
-refused   the same, of refused messages: the octets of the body and the line; FORMAT/FILE:FROM has the place where they begin
+octets    FORMAT/FILE:FROM WHAT || WHAT..: rows of vectors/, by what they are of, with their octets from a place on
+refused   the same, of messages that are refused
 crates    the crates of crates.txt, each with the first sentence of its README
-words     CRATE NAME, CRATE NAME..: our words, each with the doc line or comment of its definition
 """
 import json
 import os
@@ -68,17 +67,16 @@ def in_words(digits):
 
 
 def octets(arguments):
-    lines = []
-    for row, begin in rows_of(arguments):
-        record = json.dumps(row["record"], separators=(",", ":"), ensure_ascii=False)
-        lines += [f"{record}", f"    {in_words(row['message'][2 * begin:])}"]
-    return ["```", *lines, "```"]
+    found = [*rows_of(arguments)]
+    values = (json.dumps(row["record"].get("args", row["record"].get("result")), separators=(",", ":"), ensure_ascii=False) for row, _ in found)
+    lines = [f"| {row['what']} | `{value}` | `{in_words(row['message'][2 * begin:])}` |" for (row, begin), value in zip(found, values)]
+    return ["| Message | JSON | Octets" + (f" from place {found[0][1]} on" if found[0][1] else "") + " |", "|---|---|---|", *lines]
 
 
 def refused(arguments):
     found = [*rows_of(arguments)]
-    lines = [f"| {row['what']} | `{in_words(row['message'][2 * begin:])}` | `! {row['refused']}` |" for row, begin in found]
-    return [f"| A message with {'from place ' + str(found[0][1]) + ' on' if found[0][1] else 'these octets'} | Octets | Answer |", "|---|---|---|", *lines]
+    lines = [f"| {row['what']} | `{in_words(row['message'][2 * begin:])}` | `{row['refused']}` |" for row, begin in found]
+    return ["| Message | Octets" + (f" from place {found[0][1]} on" if found[0][1] else "") + " | Fault |", "|---|---|---|", *lines]
 
 
 def crates(_):
