@@ -7,7 +7,9 @@ session   FOLDER WORDS || WORDS..: of the transcript of a folder of examples/, t
 octets    FORMAT/FILE:FROM WHAT || WHAT..: rows of vectors/, by what they are of, with their octets from a place on
 refused   the same, of messages that are refused
 crates    the crates of crates.txt, each with the first sentence of its README
+words     WORD, USUAL TERM: CRATE NAME || ..: our words, each with the first sentence of the doc line or comment of its definition
 """
+import glob
 import json
 import os
 import re
@@ -83,7 +85,30 @@ def crates(_):
     return ["| Crate | What it is |", "|---|---|", *(f"| `{name}` | {sources.purpose(name).replace('|', chr(92) + '|')} |" for name in sources.crate_names())]
 
 
-KINDS = {"usage": usage, "session": session, "octets": octets, "refused": refused, "crates": crates}
+def meaning(crate, name):
+    """The first sentence above a type or a definition of a crate, and its file."""
+    for path in sorted(glob.glob(f"{TOP}/crates/{crate}/src/**/*.rt", recursive=True)):
+        text = sources.sums.content(path)
+        if found := re.search(rf"^pub (?:enum|struct|trait) {name}\b.*", text, re.M):
+            return sources.sentence(sources.doc_above(text, text[found.start():])), os.path.relpath(path, f"{TOP}/crates")
+    for path in sorted(glob.glob(f"{TOP}/crates/{crate}/specs/**/*.antt", recursive=True)):
+        for each in sources.definitions(os.path.relpath(path, TOP)):
+            if each.name == name and each.comment:
+                return each.comment, os.path.relpath(path, f"{TOP}/crates")
+    raise SystemExit(f"crates/{crate} has no type or definition {name} with a line above it")
+
+
+def words(arguments):
+    lines = ["| Our word | Usual term | What it is |", "|---|---|---|"]
+    for entry in arguments.split(" || "):
+        word, term, crate, name = re.match(r"(.*?), (.*): (\w+) (\S+)$", entry).groups()
+        said, path = meaning(crate, name)
+        said = re.sub(r"\[(`\w+`)\]", r"\1", said[:1].upper() + said[1:])
+        lines.append(f"| {word} | {term} | {said} (`{path}`) |")
+    return lines
+
+
+KINDS = {"words": words, "usage": usage, "session": session, "octets": octets, "refused": refused, "crates": crates}
 
 
 def page(written):
