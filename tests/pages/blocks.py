@@ -8,7 +8,9 @@ octets    FORMAT/FILE:FROM WHAT || WHAT..: rows of vectors/, by what they are of
 refused   the same, of messages that are refused
 crates    the crates of crates.txt, each with the first sentence of its README
 words     WORD, USUAL TERM: CRATE NAME || ..: our words, each with the first sentence of the doc line or comment of its definition
+touched   WHAT = NEIGHBOUR || ..: what may be added, and the files of src/ and specs/ that name a thing like it
 """
+import functools
 import glob
 import json
 import os
@@ -108,7 +110,36 @@ def words(arguments):
     return lines
 
 
-KINDS = {"words": words, "usage": usage, "session": session, "octets": octets, "refused": refused, "crates": crates}
+def naming(word):
+    """The files of crates that name a word, by crate: the names of files without their ending."""
+    files = {}
+    for crate in sources.crate_names():
+        if not crate.startswith(("check_", "bench_")):
+            paths = sorted(glob.glob(f"{TOP}/crates/{crate}/src/**/*.rt", recursive=True)) + sorted(glob.glob(f"{TOP}/crates/{crate}/specs/*.antt"))
+            found = [os.path.basename(path).split(".")[0] for path in paths if word in words_in(path)]
+            if found := [name for name in dict.fromkeys(found) if name not in ("lib", "tests")]:
+                files[crate] = found
+    return files
+
+
+@functools.lru_cache(maxsize=None)
+def words_in(path):
+    return set(re.findall(r"\w+", "\n".join(line for line in sources.sums.content(path).split("\n") if not line.strip().startswith(("//", "--")))))
+
+
+def touched(arguments):
+    lines = ["| To add | Like | Files that name this |", "|---|---|---|"]
+    for entry in arguments.split(" || "):
+        what, word = entry.split(" = ")
+        files = naming(word)
+        if not files:
+            raise SystemExit(f"no file of a crate names {word}")
+        shown = "; ".join(f"`{crate}`: {', '.join(names)}" for crate, names in files.items())
+        lines.append(f"| {what} | `{word}` | {shown} |")
+    return lines
+
+
+KINDS = {"words": words, "touched": touched, "usage": usage, "session": session, "octets": octets, "refused": refused, "crates": crates}
 
 
 def page(written):
