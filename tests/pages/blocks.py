@@ -8,6 +8,7 @@ octets    FORMAT/FILE:FROM WHAT || WHAT..: rows of vectors/, by what they are of
 refused   the same, of messages that are refused
 crates    the crates of crates.txt, each with the first sentence of its README
 words     WORD, USUAL TERM: CRATE NAME || ..: our words, each with the first sentence of the doc line or comment of its definition
+grammar   onc, corba or mig: the rules by which tests/model reads files of the language
 touched   WHAT = NEIGHBOUR || ..: what may be added, and the files of src/ and specs/ that name a thing like it
 """
 import functools
@@ -139,7 +140,11 @@ def touched(arguments):
     return lines
 
 
-KINDS = {"words": words, "touched": touched, "usage": usage, "session": session, "octets": octets, "refused": refused, "crates": crates}
+def grammar(language):
+    return ["```", *re.search(r'^GRAMMAR = """\n(.*?)\n"""', content(f"tests/model/{language}.py"), re.S | re.M)[1].split("\n"), "```"]
+
+
+KINDS = {"words": words, "grammar": grammar, "touched": touched, "usage": usage, "session": session, "octets": octets, "refused": refused, "crates": crates}
 
 
 def page(written):
