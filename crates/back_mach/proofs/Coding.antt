@@ -1,5 +1,5 @@
 -- A head as one chunk appends its octets.
-use Rattle.std.proofs.Common.{◌≡◌, ℕ, zero, suc, ◌<◌, pos, Bool, true, false, List, [], Option, Some, refl, sym, ap, subst, arith}
+use Rattle.std.proofs.Common.{◌≡◌, ℕ, zero, suc, ◌<◌, pos, Bool, true, false, List, [], ◌∷◌, Option, Some, refl, sym, ap, subst, arith}
 use Rattle.std.specs.Prelude.{Result, Ok, Err, IfOk, nat_lt}
 use Rattle.std.proofs.lemmas.Bool.{lt-ltb}
 use Rattle.kit_base.specs.declared.errors.NoMemory.{NoMemory}
@@ -7,6 +7,7 @@ use Rattle.mint.specs.Values.{Val}
 use Rattle.wire_def.specs.declared.head.Head.{Head}
 use Rattle.wire_def.specs.declared.head.Order.TheVariants.{Little}
 use Rattle.cast_stub.specs.declared.put.Put.{Put}
+use Rattle.cast_stub.specs.declared.put.Put.TheVariants as put
 use Rattle.cast_stub.specs.declared.send.SendCode.{SendCode}
 use Rattle.cast_stub.specs.Parts.{on_some}
 use Rattle.cast_stub.specs.Puts.{IsHead, filled}
@@ -19,9 +20,10 @@ use Rattle.cast_stub.proofs.Pieces.{seen-Chunk, seen-Patch}
 use Rattle.cast_stub.proofs.Putting.{if_so}
 use Rattle.stub_lower.specs.Leads.{Leads, AreChunks}
 use Rattle.back_mach.specs.declared.routines.Routine.{Routine}
-use Rattle.back_mach.specs.Words.{word}
-use Rattle.back_mach.specs.Leads.{lead, reply_lead, reply_lead_length}
-use Rattle.back_mach.specs.Coded.{IsChunk, request_puts, reply_puts}
+use Rattle.back_mach.specs.Reply.{return_word}
+use Rattle.back_mach.specs.Words.{word, words}
+use Rattle.back_mach.specs.Leads.{lead, reply_id, reply_lead, reply_lead_length}
+use Rattle.back_mach.specs.Coded.{IsChunk, request_puts, last_words, reply_puts}
 
 pub ruleset coding = (seen-Chunk)
 
@@ -83,3 +85,11 @@ pub replies_chunk : (d : Result SendCode NoMemory) (r : Routine) (arms arm : ℕ
     → IfOk d (λ code. IsChunk (reply_lead_length arms) (reply_puts r arms arm) code) → IfOk d AreChunks
 replies_chunk (Ok code) r arms arm is = reply_chunks r arms arm code is
 replies_chunk (Err e) r arms arm is = tt
+
+-- the words with an arm, where exceptions are raised
+pub last_made : (d : Result Put NoMemory) (r : Routine) (arms arm id : ℕ) → (arms ≡ 0 → ⊥) → id ≡ reply_id r.id
+    → IfOk d (λ p. p ≡ put.Const 12 (words (0 ∷ 0 ∷ id ∷ return_word ∷ 0 ∷ return_word ∷ arm ∷ [])))
+    → IfOk d (λ p. p ≡ put.Const 12 (words (last_words r arms arm)))
+last_made d r zero arm id some is h = absurd (some refl)
+last_made d r (suc n) arm id some is h =
+    subst (λ (k : ℕ). IfOk d (λ p. p ≡ put.Const 12 (words (0 ∷ 0 ∷ k ∷ return_word ∷ 0 ∷ return_word ∷ arm ∷ [])))) is h

@@ -47,7 +47,7 @@ number_forth : (arms p : ℕ) (o : List ℕ) (x : ℕ × ℕ) → Few arms p o x
 unfolding kit.WordSpells
 number_forth arms p o x (a, b, is, ((first, fits), same), ((second, fits1), few)) =
     let desc : x.0 ≡ return_word = eqb-true _ _ same in
-    (rw (is, first, second, desc) refl, (fits1, leb-true _ _ few))
+    (rw (is, first, second, desc) refl, fits1, leb-true _ _ few)
 
 number_back : (arms p : ℕ) (o : List ℕ) (y : ℕ) → NumberSpells arms p o y → (x : ℕ × ℕ) × (x.1 ≡ y) × Few arms p o x
 unfolding kit.WordSpells

@@ -168,7 +168,7 @@ number_after : (arms arm : ℕ) → IsWord arm → arm ≤ arms
     → AfterSpells arms 0 32 (where_raised arms (words (return_word ∷ arm ∷ []))) arm
 number_after zero zero fits few = (refl, refl)
 number_after zero (suc k) fits few = absurd (omega (arith, few))
-number_after (suc n) arm fits few = (refl, (fits, few))
+number_after (suc n) arm fits few = (refl, fits, few)
 
 after_long : (arms arm : ℕ) → reply_lead_length arms ≡ 32 + length (where_raised arms (words (return_word ∷ arm ∷ [])))
 after_long zero arm = refl

@@ -43,7 +43,7 @@ NumberSpells arms p o k = (o ≡ word return_word ++ word k) × IsWord k × (k �
 
 -- what follows a return code: the arm behind code 0, where exceptions are raised, and else nothing
 abbrev pub AfterSpells : ℕ → ℕ → Spelling ℕ
-AfterSpells arms zero = ArmSpells arms (NumberSpells arms)
+AfterSpells arms zero p o k = ArmSpells arms (NumberSpells arms) p o k
 AfterSpells arms (suc m) p o k = (o ≡ []) × (0 ≡ k)
 
 -- a reply with an id to an operation that raises so many exceptions, in a message of so many octets
@@ -68,7 +68,7 @@ NumberStops arms =
 
 -- the first item after a return code
 abbrev pub AfterStops : ℕ → ℕ → Stopping HeadErr
-AfterStops arms zero = ArmStops arms (NumberStops arms)
+AfterStops arms zero p o k at = ArmStops arms (NumberStops arms) p o k at
 AfterStops arms (suc m) p o k at = ⊥
 
 -- the first item of a reply's head that is cut off or wrong
