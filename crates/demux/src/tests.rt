@@ -56,7 +56,9 @@ fn gets(rt: &HostRuntime) -> Result<Words, NoMemory> {
 
 #[test]
 fn names_that_begin_alike_are_found_by_two_reads_at_most(rt: HostRuntime) -> Result<(), Fail> {
-    let demux = Demux::new(rt.alloc(), &gets(&rt)?)?;
+    let names = gets(&rt)?;
+    assert!(rt; names.len() == 4);
+    let demux = Demux::new(rt.alloc(), &names)?;
     assert!(rt; finds(&demux, b"get", Some(0), 1));
     assert!(rt; finds(&demux, b"getx", Some(1), 1));
     assert!(rt; finds(&demux, b"get_x", Some(2), 2));
