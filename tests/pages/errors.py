@@ -8,7 +8,7 @@ import sources
 from sources import TOP
 
 LANGUAGES = {"onc": "ONC", "corba": "CORBA", "mig": "MIG"}
-EACH, FEW = 2, 1  # rows of a language; explained lines
+MOST, FEW = 2, 1  # rows of files, of one language or of each; explained lines
 SHORT = 7  # words of a doc line that says too little alone
 LONGEST = 64  # characters of a text that is shown
 HEAD = """# What the program says when it refuses
@@ -161,9 +161,9 @@ def line_examples():
     return found, backs
 
 
-def chosen(pairs):
+def chosen(pairs, few):
     """A few rows, of those with a short text the first."""
-    pairs = sorted(pairs, key=lambda pair: not pair[1])[:EACH]
+    pairs = sorted(pairs, key=lambda pair: not pair[1])[:few]
     return ", ".join(f"{text} ({name})" if text else name for name, text in pairs)
 
 
@@ -191,13 +191,15 @@ class Page:
         yield from ["", *listed, *([f"- What may help: {helps}."] if helps else [])] if listed or helps else []
 
     def examples(self, answer):
-        for language, pairs in self.files.get(answer, {}).items():
-            yield f"- {LANGUAGES[language]}: {chosen(pairs)}."
-        for shown, text, over, command in self.said.get(answer, [])[:FEW]:
+        languages = self.files.get(answer, {})
+        for language, pairs in languages.items():
+            yield f"- {LANGUAGES[language]}: {chosen(pairs, max(1, MOST // len(languages)))}."
+        said = self.said.get(answer, [])[:FEW]
+        for shown, text, over, command in said:
             where = "".join(part for part in (f" under `{command}`" if command else "", f" over `{over}`" if over else "") if part)
             yield f"- {shown}{where}: {text}."
         names = [f"{names[0]} (`{command}`)" for command, names in self.lines.get(answer, {}).items() if names]
-        if names:
+        if names and not said:
             yield f"- Rows: {'; '.join(names)}."
 
 

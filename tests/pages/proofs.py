@@ -14,6 +14,20 @@ HEAD = """# What is proved, and what shows its teeth
 - **An edit** stands in `must-fail/` of its crate, and the gate tries it each time.
 - No clause says that memory is there. Rows and tests show that calls succeed.
 """
+WHATEVER = """
+## Whatever comes, and whatever fails
+
+| Promise | Clause |
+|---|---|
+| every public call returns, and does nothing undefined | each function is proved to be safe and to end, at each call that meets its conditions; `flick` has none |
+| where more than the greatest input was taken, as of an input without an end, the status is 7 or 8 | `at_most`, `range` |
+| no store or load leaves what was ensured or tested before | conditions of `SendBuf::put`, `put_const`, `advance`, `align`, `row_copy`, `row_swap`, `patch4`, `RecvView::load`, `take`, `row`, proved at each call |
+| a refused `ensure`, `push` or `add` changes nothing, and after a refused `marshal` the buffer is empty | `err` of `SendBuf::ensure`, `Listed::push`, `Mint::add`, `Engine::marshal` |
+| after an error a reader of lines answers the same error | `Lines::next`, `again` |
+| a failed source, sink or shelf is reported only where its count of faults rose, and where it rose, unless it stands at 2^64 - 1 | `source`, `sink`, `shelf`; `source_reported`, `sink_reported`, `shelf_reported` of `flick` |
+| after a fault of a source or sink, out of memory or too much input, as after every other end, what was written begins the one output of the words, under each command | `work`: `prefix`, and where there was no task nothing was written; `outputs_are_determined` |
+| with 4 it is the text and the answers to the lines that had ended, and unless the sink failed whole answers | `work`: `ended`, `whole` |
+"""
 TOP_CALL = ("flick_top", "flick")
 # What stands around the conclusion of a clause.
 AROUND = re.compile(r"^(?:(?:IfOk|IfSome|IfErr) \S+ \(λ [^.]*\. |(?:OnOk|OnErr|IfNone) \S+ \(|(?:IfOk|IfSome) result (?=[A-Z])|\()")
@@ -193,7 +207,7 @@ def section(crate):
 
 def page():
     order = [name for _, names in reversed(sources.crates()) for name in names]
-    return HEAD + "".join(f"{line}\n" for crate in order for line in section(crate))
+    return HEAD + WHATEVER + "".join(f"{line}\n" for crate in order for line in section(crate))
 
 
 def wrong_clauses():
