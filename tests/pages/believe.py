@@ -6,6 +6,7 @@ import sources
 from sources import TOP
 
 sources.sys.setrecursionlimit(100_000)
+NAMES = 2  # definitions of a file that are named
 STATEMENT, OUTSIDE = "crates/flick_top/specs/Statement.antt", "crates/flick_top/specs/Outside.antt"
 CALL = "crates/flick_top/src/top.rt"
 VERBS, COMING, ANSWER = "crates/flick_lines/specs/Verbs.antt", "crates/flick_top/specs/Coming.antt", "crates/flick_top/specs/Answer.antt"
@@ -98,25 +99,31 @@ def title(path):
 
 
 def which(path, found):
-    """Which definitions of a file are read: all, some, or all but some."""
+    """Which definitions of a file are read: all, most or a few."""
     names = [each.shown() for each in found]
-    left = [each.shown() for each in sources.definitions(path) if each not in found]
+    left = len(sources.definitions(path)) - len(found)
     if not left:
-        return "all"
-    few, many = ("", names) if len(names) <= len(left) else ("all but ", left)
-    shown = ", ".join(f"`{name}`" for name in many[:4])
-    return f"{few}{shown}{f' and {len(many) - 4} more' if len(many) > 4 else ''}"
+        return ""
+    if len(names) > left:
+        return f"all but {left}"
+    return ", ".join(f"`{name}`" for name in names[:NAMES]) + (f", {len(names) - NAMES} more" if len(names) > NAMES else "")
 
 
 def table(found, order, titled):
-    """The rows of a stage: its files in the order of reading. A file has its title where it comes first."""
+    """The rows of a stage: its files in the order of reading, with their titles where they come first; then what else is read of files that came before."""
     files = {}
     for each in found:
         files.setdefault(each.path, []).append(each)
-    yield from ("", "| File | Lines | Read | What it defines |", "|---|---|---|---|")
-    for path in sorted(files, key=lambda path: order.get(path, len(order))):
-        yield f"| `{path.removeprefix('crates/')}` | {lines_of(files[path])} | {which(path, files[path])} | {'' if path in titled else title(path)} |"
+    paths = sorted(files, key=lambda path: order.get(path, len(order)))
+    first, again = ([path for path in paths if (path in titled) == is_again] for is_again in (False, True))
+    if first:
+        yield from ("", "| File | What it defines | Read |", "|---|---|---|")
+    for path in first:
+        yield f"| `{path.removeprefix('crates/')}` | {title(path)} | {which(path, files[path])} |"
         titled.add(path)
+    if again:
+        told = (f"`{path.removeprefix('crates/')}`" + (f" ({which(path, files[path])})" if which(path, files[path]) else "") for path in again)
+        yield from ("", f"More of {', '.join(told)}.")
 
 
 def declaring():
@@ -144,7 +151,7 @@ def page():
            "| To believe | Lines to read | Of these in its own table |", "|---|---|---|"]
     out += [f"| {what} | {lines:,} | {lines_of(found):,} |" for what, lines, found in stages]
     out += [f"| the statement: how commands, files, input and output come together | {lines_of(rest):,} | {lines_of(last):,} |", ""]
-    out += ["Each table below has what is not in one above it, each file after those that it uses."]
+    out += ["Each table below has what is not in one above it, each file after those that it uses. Where nothing stands under Read, all of the file is read."]
     for what, _, found in stages:
         out += ["", f"## {what[0].upper()}{what[1:]}" if not what.startswith("what") else f"## W{what[1:]}", *table(found, order, titled)]
     out += ["", "## The statement", *table(last, order, titled), "", "## Types", "",

@@ -8,7 +8,8 @@ import sources
 from sources import TOP
 
 LANGUAGES = {"onc": "ONC", "corba": "CORBA", "mig": "MIG"}
-EACH, FEW = 3, 2  # rows of a language; rows of a command
+EACH, FEW = 2, 1  # rows of a language; explained lines
+SHORT = 7  # words of a doc line that says too little alone
 LONGEST = 64  # characters of a text that is shown
 HEAD = """# What the program says when it refuses
 
@@ -18,7 +19,7 @@ AT is the place of an octet, counted from 0. LINE is a line of the file and DECL
 
 `./explain` shows more. With the words of the run, and what it wrote on standard input, it gives file, line, column and name of a `?`. With `--lines INPUT` it also gives the path of the first misfit after `! value`, the field and octets after `! body`, and after `? replies LINE` what is wrong with the line of REPLIES (`docs/COMMANDS.md`).
 
-`tests/print_docs --write` prints this page. The first sentence of an entry is the doc line of the variant in the code, the next ones are those of `./explain`. The examples are rows of `tests/explain`, `tests/files` and `tests/lines`, which `tests/run` replays: there are more of them.
+`tests/print_docs --write` prints this page. An entry begins with the doc line of the variant in the code; its examples are rows of `tests/explain`, `tests/files` and `tests/lines`, which have more of them.
 """
 # Sentences of what no variant stands for; and what is worth knowing besides.
 SAID = {"! long": "The line is above its limit and was not read, or its message would be above the limit.", "! json": "The line is not JSON.", "! hex": "",
@@ -179,7 +180,8 @@ class Page:
         """An entry: what is there, why, examples, and what may help."""
         found = [self.causes[name] for name in names]
         told = dict.fromkeys([whole(doc)] if doc else [])
-        told.update(dict.fromkeys(whole(each["why"]) for each in found))
+        if len(doc.split()) < SHORT or len(found) > 1:
+            told.update(dict.fromkeys(whole(each["why"]) for each in found))
         told.update(dict.fromkeys([BESIDES[answer]] if answer in BESIDES else []))
         if answer.startswith(("! head ", "! body ")) and answer in self.backs:
             told[f"It comes over {', '.join(f'`{back}`' for back in sorted(self.backs[answer]))}."] = None
@@ -194,9 +196,9 @@ class Page:
         for shown, text, over, command in self.said.get(answer, [])[:FEW]:
             where = "".join(part for part in (f" under `{command}`" if command else "", f" over `{over}`" if over else "") if part)
             yield f"- {shown}{where}: {text}."
-        for command, names in self.lines.get(answer, {}).items():
-            if names:
-                yield f"- Rows of `{command}`: {'; '.join(names[:FEW])}."
+        names = [f"{names[0]} (`{command}`)" for command, names in self.lines.get(answer, {}).items() if names]
+        if names:
+            yield f"- Rows: {'; '.join(names)}."
 
 
 def group(out, page, heading, entries, first=()):

@@ -8,18 +8,19 @@ from sources import TOP, sums
 
 HEAD = """# What is proved, and what shows its teeth
 
-`tests/print_docs --write` prints this page from the sources: the doc line of each call, the names of its clauses, the comments of definitions, and the planted bugs of `tests/bugs`. It has the laws, and the calls that another crate makes, but not those with a single clause in which no bug is planted. A law is a function that does nothing and promises a fact. Names of clauses mean the same everywhere (`docs/CONTRIBUTING.md`, "Names of clauses").
+`tests/print_docs --write` prints this page from the sources. It has the laws, and the calls that another crate makes, where there is more to say than a doc line: the comments of the definitions that their clauses cite, each once, or a bug. A law is a function that does nothing and promises a fact. Names of clauses mean the same everywhere (`docs/CONTRIBUTING.md`, "Names of clauses").
 
-- **A bug** stands in double quotes, with the clause that it breaks where that is known. The prover refused it when it was last tried, which may be before the code around it last changed (`tests/names --bugs`). What stands after "not tried since" has no such mark. `tests/bugs/run NAME` tries those of a crate.
+- **Refused** is a bug of `tests/bugs`, with the clause that it breaks where that is known, and how many more there are. The prover refused it when it was last tried, which may be before the code around it changed (`tests/names --bugs`); "not tried since" has no such mark. **Inside** are bugs of functions that no row has.
 - **An edit** stands in `must-fail/` of its crate, and the gate tries it each time.
-- No clause says that memory is there: a body that always reports that memory ran out satisfies its clauses. Rows and tests show that calls succeed.
+- No clause says that memory is there. Rows and tests show that calls succeed.
 """
 TOP_CALL = ("flick_top", "flick")
 # What stands around the conclusion of a clause.
 AROUND = re.compile(r"^(?:(?:IfOk|IfSome|IfErr) \S+ \(λ [^.]*\. |(?:OnOk|OnErr|IfNone) \S+ \(|(?:IfOk|IfSome) result (?=[A-Z])|\()")
 COMMON = ("NoneFell", "Gives")  # definitions that many clauses cite, which docs/CONTRIBUTING.md tells
 SHOWN = 1  # bugs of a row
-MORE = 2  # bugs of functions inside a crate
+MORE = 1  # bugs of functions inside a crate
+DEFINED = 2  # bugs of definitions
 
 
 def cell(text):
@@ -34,21 +35,28 @@ def quoted(bug, of=""):
     return f'"{bug["bug"]}"' + (f" ({where})" if where else "")
 
 
-def clauses_told(call, told):
-    """The clauses in order: each name with the comment of its definition, where that was not told before; or how many have no name."""
-    if call.is_law:
-        said = [each.comment for _, term, _ in call.clauses if (each := head_of(call, term))]
-        return f"a law: {'; '.join(said)}" if len(" ".join(said).split()) > len(call.doc.split()) else "a law"
-    if len(call.clauses) > 1 and not any(name for name, _, _ in call.clauses):
-        return f"its {len(call.clauses)} clauses"
-    shown = []
+def promised(call, doc, told):
+    """What a call promises: its clauses with the comments of their definitions, where these were not told before, or else its doc line and the names of its clauses."""
+    if call.is_law or is_top(call):
+        return doc
+    shown, is_told = [], False
     for name, term, _ in call.clauses:
         definition = head_of(call, term)
         is_new = definition and definition.comment and definition.name not in told
-        named = f"`{name}`" if name else "its only clause" if len(call.clauses) == 1 else "a clause"
-        shown.append(f"{named}: {definition.comment}" if is_new else named)
+        is_told = is_told or is_new
         told.update([definition.name] if is_new else [])
-    return "; ".join(shown) if any(": " in each for each in shown) else ", ".join(shown)
+        comment = definition.comment if is_new else ""
+        shown.append(f"`{name}`: {comment}" if name and comment else f"`{name}`" if name else comment)
+    shown = [each for each in shown if each]
+    if is_told:
+        return "; ".join(shown)
+    return f"{doc} ({', '.join(shown)})" if shown else doc
+
+
+def says_something(call, by):
+    """Whether a row of a call says more than its doc line and the names of its clauses."""
+    return call.is_law or (call.owner, call.name) in by or is_top(call) or any(
+        (each := head_of(call, term)) and each.comment and each.name not in COMMON for _, term, _ in call.clauses)
 
 
 def bugs_by_call(crate):
@@ -79,16 +87,15 @@ def inside(by, shown):
         if name not in seen and len(few) < MORE:
             few.append(quoted(bug, name))
             seen.add(name)
-    count = f"{len(left)} wrong bodies are" if len(left) > 1 else "A wrong body is"
-    yield f"{count} refused in functions inside the crate{', such as' if len(left) > len(few) else ':'} {', '.join(few)}."
+    yield f"Inside: {', '.join(few)}{f'; {len(left) - len(few)} more' if len(left) > len(few) else ''}."
 
 
 def of_definitions(crate):
     """The bugs that change a definition, which the crate's own proofs refuse."""
     bugs = [bug for bug in sums.bugs_of(crate) if bug.get("refused") and not bug["function"]]
     if bugs:
-        more = f", and {len(bugs) - 6} more" if len(bugs) > 6 else ""
-        yield f"Wrong definitions that the laws refuse: {', '.join(map(quoted, bugs[:6]))}{more}."
+        more = f", and {len(bugs) - DEFINED} more" if len(bugs) > DEFINED else ""
+        yield f"Wrong definitions that the laws refuse: {', '.join(map(quoted, bugs[:DEFINED]))}{more}."
 
 
 def others(crate):
@@ -165,18 +172,22 @@ def section(crate):
     if not calls:
         return
     by, top, told_of = bugs_by_call(crate), None, {*COMMON}
-    calls = [call for call in calls if call.is_law or len(call.clauses) > 1 or (call.owner, call.name) in by] or calls
-    yield from ("", f"## {crate}", "", f"{sources.purpose(crate)}.", "", "| Call | What it does or gives | Clauses | A wrong body that is refused |", "|---|---|---|---|")
+    calls = [call for call in calls if says_something(call, by)]
+    notes = [*inside(by, {(call.owner, call.name) for call in calls}), *of_definitions(crate), *others(crate)]
+    if not calls and not notes:
+        return
+    yield from ("", f"## {crate}", "")
+    if calls:
+        yield from ("| Call | What it promises | Refused |", "|---|---|---|")
     for call in calls:
         doc = re.sub(r"^Does nothing\. (It states that|States that|It says that)?", "", call.doc).strip()
         doc = re.sub(r"\[(`\w+`)\]", r"\1", doc[:1].upper() + doc[1:])
-        yield f"| `{call.shown()}` | {cell(sources.sentence(doc))} | {'below' if is_top(call) else cell(clauses_told(call, told_of))} | {cell(told(by.get((call.owner, call.name), [])))} |"
+        yield f"| `{call.shown()}` | {cell(promised(call, sources.sentence(doc), told_of))} | {cell(told(by.get((call.owner, call.name), [])))} |"
         top = call if is_top(call) else top
     if top:
         yield from top_table(top)
-    notes = [*inside(by, {(call.owner, call.name) for call in calls}), *of_definitions(crate), *others(crate)]
     if notes:
-        yield ""
+        yield from [""] if calls else []
         yield from (f"- {note}" for note in notes)
 
 
