@@ -447,6 +447,14 @@ def tried(rng):
     return 1, covered, [(w, phase, place, value, given, subs, made) for w in wrong], longest_run(made)
 
 
+def rows(seed, codes):
+    """Each worked code, and random ones, with what is wrong with what the pass makes of it, which has to be nothing."""
+    for number, finding in enumerate(worked_wrong()):
+        yield f"worked code {number} in chunks", "", finding
+    for number in range(codes):
+        yield f"code {seed}/{number} in chunks", "", "".join(finding[0] for finding in tried(random.Random(f"{seed}/{number}"))[2])
+
+
 def main():
     seed, codes = (int(word) for word in [*sys.argv[1:], "1", "10000"][:2])
     for finding in worked_wrong():
