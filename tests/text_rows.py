@@ -7,7 +7,8 @@ have it.
 
 Which code a stub has is not fixed. `stubs` has to write the text of stubs that send and receive what tests/model says,
 for values made of some numbers. A row of `count` has a line, the digits that answer it, and as `most` how often its code
-may look at the buffer; what follows the digits has to be the cost of the code that is printed, as tests/model runs it.
+may look at the buffer, and where it has them as `moves` and `stores` how often it may move the cursor and store; what
+follows the digits has to be the cost of the code that is printed, as tests/model runs it.
 """
 import json
 import os
@@ -90,6 +91,9 @@ def replay_counts(program, rows, front, over, text, path):
         digits, *numbers = line.split(" ") if not line.startswith("!") else [line]
         is_few = not numbers or numbers[0].isdigit() and int(numbers[0]) <= row["most"]
         many = [] if is_few else [f"more than {row['most']} looks at the buffer: {' '.join(numbers)}"]
+        for place, what in ((1, "moves"), (2, "stores")):
+            if numbers and what in row and int(numbers[place]) > row[what]:
+                many.append(f"more than {row[what]} {what}: {' '.join(numbers)}")
         yield row["name"], difference("wrote", spelled(row["answer"]), digits) + many
     yield f"count over {over}", wrong_count(program, front, over, path, INTERFACES[front](text), given)
 

@@ -14,11 +14,13 @@ from calls import BACKS, marshal, tree_of
 from corba_nodes import Table, is_row, kind_of
 from making import made
 from nodes import is_exact, numbers_of, regions, sent
+from stub_chunks import Phase, chunked
 from stub_runs import Sending, Undefined, received_by, sent_by
 from stub_texts import NoStub, stubs_of, text_of
 from values import Array, Fault, Number, Opaque, Pointer, Reader, String, Struct, Union
 
 ENCODINGS = {"xdr": "xdr", "cdr-be": "cdr_big", "cdr-le": "cdr_little", "mach": "mach"}
+START = Phase(8, 0)
 HEAD = {"id": 0, "remote": 0, "local": 0}
 
 # An operation with its whole name, the node of its requests, and the octets of their head.
@@ -146,6 +148,32 @@ def blocks(encoding, nodes, id, value):
     return sum(blocks(encoding, nodes, node[1], inner) for inner in value["opt"]) if form == "maybe" else 0
 
 
+def entries_and_leaves(encoding, nodes, id, value):
+    """How many runs of stores a value begins behind its start, and how many numbers, flags, lists, rows and texts it has. A
+    number of a row that is put by itself is a leaf, and where the row is a loop its turn is a run."""
+    node = nodes[id]
+    form = node[0]
+    if form in ("text", "row"):
+        alone = 0 if is_block(encoding, node, *(("char", 1) if form == "text" else (node[1], 2))) else len(numbers_of(value))
+        return 1 + (alone if encoding != "xdr" else 0), 1 + alone
+    if form == "group":
+        inner = [entries_and_leaves(encoding, nodes, child, part) for child, part in zip(node[1], value["group"])]
+        return sum(entries for entries, _ in inner), sum(leaves for _, leaves in inner)
+    if form == "items":
+        inner = [entries_and_leaves(encoding, nodes, node[1], part) for part in value["items"]]
+        return 1 + sum(1 + entries for entries, _ in inner), 1 + sum(leaves for _, leaves in inner)
+    if form in ("choice", "maybe"):
+        inner = (0, 0)
+        if form == "choice":
+            n, part = value["arm"]
+            arm = next((child for label, child in node[2] if label == n), node[3] if len(node) > 3 else None)
+            inner = entries_and_leaves(encoding, nodes, arm, part)
+        elif value["opt"]:
+            inner = entries_and_leaves(encoding, nodes, node[1], value["opt"][0])
+        return 2 + inner[0], 1 + inner[1]
+    return 0, int(form != "void")
+
+
 def shown_cost(cost):
     return " ".join(map(str, cost))
 
@@ -161,6 +189,10 @@ def cost_of(back, request, stub, head, value, message):
     need(cost.checks <= most, f"{cost.checks} checks over {most} regions")
     pieces = blocks(ENCODINGS[back], request.nodes, request.id, value)
     need(cost.rows == pieces, f"{cost.rows} rows, and {pieces} that travel in one piece")
+    entries, leaves = entries_and_leaves(ENCODINGS[back], request.nodes, request.id, value)
+    need(cost.moves <= 8 * (1 + entries + most), f"{cost.moves} moves over {1 + entries} entries and {most} regions")
+    need(cost.stores <= 3 * leaves + 8, f"{cost.stores} stores of {leaves} leaves")
+    need(chunked(START, stub.code) == stub.code, f"{request.name}: stores that may be in one chunk")
     return cost
 
 

@@ -13,6 +13,7 @@ from stub_texts import Stub, stubs_of, text_of
 Phase = namedtuple("Phase", "m r")  # the position is r modulo m
 UNKNOWN = Phase(1, 0)
 MOST = 7  # chunks and aligns that stand together
+TOGETHER = ("chunk", "align")
 OPEN_ENDED = ("row_copy", "row_swap", "call")
 
 
@@ -155,14 +156,14 @@ def skeleton(code):
         if word == "switch":
             return [(n, skeleton(b)) for n, b in body[0]], skeleton(body[1]) if body[1] is not None else None
         return body
-    return [((word, *words), inner(word, body)) for (word, *words), body in code if word not in ("chunk", "align")]
+    return [((word, *words), inner(word, body)) for (word, *words), body in code if word not in TOGETHER]
 
 
 def longest_run(code):
     """The most chunks and aligns that stand together, in bodies too."""
     most = run = 0
     for (word, *_), body in code:
-        run = run + 1 if word in ("chunk", "align") else 0
+        run = run + 1 if word in TOGETHER else 0
         most = max(most, run)
         if word in ("each", "some"):
             most = max(most, longest_run(body))
@@ -184,11 +185,11 @@ def size_of(code):
 
 
 class Met(Sending):
-    """A run that counts what is met besides: stores with aligns, calls, rows and their octets, and the runs of chunks begun."""
+    """A run that counts what is met besides: stores with aligns, calls, rows and their octets, and the moves that are allowed."""
 
     def __init__(self, *args):
         super().__init__(*args)
-        self.met, self.openings, self.wides, self.calls, self.rows, self.covered = 0, 0, 0, [], [], True
+        self.met, self.allowed, self.calls, self.rows, self.covered = 0, 0, [], [], True
 
     def append(self, octets):
         self.covered = self.covered and len(octets) <= self.room
@@ -196,18 +197,18 @@ class Met(Sending):
         self.octets += octets
 
     def run(self, code, value):
-        self.openings += 1
+        before = ""
         for op in code:
             word = op[0][0]
             stores, begin = self.counts[2], len(self.octets)
-            self.openings += word not in ("chunk", "align")
+            self.allowed += MOST * (word in TOGETHER and before not in TOGETHER) + (word == "row_wide")
+            before = word
             if word == "call":
                 self.calls.append(op[0][1])
             super().run([op], value)
             if word in ("chunk", "patch", "row_wide"):
                 self.met += self.counts[2] - stores
             self.met += word == "align"
-            self.wides += word == "row_wide"
             if word in ("row_copy", "row_swap", "row_wide"):
                 self.rows.append((word, bytes(self.octets[begin:])))
 
@@ -242,10 +243,8 @@ def broken(given, code, subs, more, head, value, place, phase):
         wrong.append("rows")
     if new.counts[2] > old.met:
         wrong.append(f"stores {new.counts[2]} above {old.met}")
-    if old.openings != new.openings:
-        wrong.append("openings")
-    if new.counts[1] > MOST * new.openings + new.wides:
-        wrong.append("moves")
+    if new.counts[1] > old.allowed:
+        wrong.append(f"moves {new.counts[1]} above {old.allowed}")
     return wrong
 
 
@@ -446,6 +445,14 @@ def tried(rng):
     covered = met_by(given, subs, HEAD, value, bytes(place)).covered
     wrong += broken(given, made, subs, more, HEAD, value, place, phase)
     return 1, covered, [(w, phase, place, value, given, subs, made) for w in wrong], longest_run(made)
+
+
+def rows(seed, codes):
+    """Each worked code, and random ones, with what is wrong with what the pass makes of it, which has to be nothing."""
+    for number, finding in enumerate(worked_wrong()):
+        yield f"worked code {number} in chunks", "", finding
+    for number in range(codes):
+        yield f"code {seed}/{number} in chunks", "", "".join(finding[0] for finding in tried(random.Random(f"{seed}/{number}"))[2])
 
 
 def main():

@@ -8,6 +8,7 @@ use Rattle.wire_def.specs.Scalars.{gap}
 use Rattle.wire_def.specs.Orders.{in_order}
 use Rattle.raw_buf.proofs.Views.{written-after}
 use Rattle.cast_stub.specs.Block.{Block, stop, chunk}
+use Rattle.cast_stub.specs.Follows.{flat}
 use Rattle.cast_stub.specs.Framed.{lead_length}
 use Rattle.cast_stub.specs.Meaning.{wrote}
 use Rattle.cast_stub.specs.Parts.{on_some}
@@ -69,6 +70,14 @@ after q (Patched at sub order ∷ ss) o r e =
     (ap (λ (z : List ℕ). wrote 0 z ss) (over q o x at low) ∙ after q ss (written o (at - length q) x) r w.2)
 
 -- ---- chunks
+
+-- chunks alone are chunks and aligns alone
+pub chunks-flat : (b : Block) (n : ℕ) → chunk_puts b ≡ Some n → flat b ≡ Some n
+chunks-flat stop n e = e
+chunks-flat (chunk s ps b) n e =
+    let m = mapped (λ k. length ps + k) (chunk_puts b) n e in
+    ap (option_map (λ k. length ps + k)) (chunks-flat b m.0 m.1 ∙ sym m.1) ∙ e
+chunks-flat _ n e = absurd cc
 
 pub chunks-length : (b : Block) (n : ℕ) → chunk_puts b ≡ Some n → (m : ℕ) × (lead_length b ≡ Some m)
 chunks-length stop n e = (0, refl)

@@ -20,10 +20,14 @@ mod Done
 mod Costing
 -- * A value that was received is what the message has, and nothing else
 mod Found
--- * What the passes make of such code sends the messages
-mod Kept
 -- * What is lowered for a table, and the code that receives
 mod Lowering
+-- Code with its ensures left out stores as much, and is allowed seven moves less for each check, by induction on the code
+mod Eased
+-- Code that goes through a type, with its rows as blocks, has few moves and few stores, by induction on the type
+mod Bounded
+-- * What the passes make of such code sends the messages
+mod Kept
 -- The patch at the end of a message states its length
 mod Stated
 -- * The code of a head, inlined code and a patch append the message

@@ -1,5 +1,5 @@
 -- The code of a head, inlined code and a patch append the message.
-use Rattle.std.proofs.Common.{◌≡◌, ℕ, ◌+◌, ◌≤◌, ◌<◌, List, [], ◌++◌, length, get_or, Option, None, Some, refl, sym, ap, ◌∙◌, append-nil, arith, length-append}
+use Rattle.std.proofs.Common.{◌≡◌, ℕ, ◌+◌, ◌*◌, ◌≤◌, ◌<◌, List, [], ◌++◌, length, get_or, Option, None, Some, refl, sym, ap, subst, ◌∙◌, append-nil, arith, length-append}
 use Rattle.std.specs.Prelude.{slice_get}
 use Rattle.std.proofs.lemmas.Option.{slice_get-get_or}
 use Rattle.mint.specs.declared.node.Node.{Node}
@@ -15,17 +15,19 @@ use Rattle.cast_stub.specs.declared.send.SendCode.{SendCode}
 use Rattle.cast_stub.specs.declared.send.SendOp.{SendOp}
 use Rattle.cast_stub.specs.Append.{append}
 use Rattle.cast_stub.specs.Block.{Block, code_seen}
+use Rattle.cast_stub.specs.Entries.{entries}
 use Rattle.cast_stub.specs.Follows.{Follows, AllFollow}
 use Rattle.cast_stub.specs.Framed as framed_code
 use Rattle.cast_stub.specs.Framed.{lead_length, IsTail}
-use Rattle.cast_stub.specs.Kept.{ChangesOnlyEnsures}
+use Rattle.cast_stub.specs.Kept.{unensured, ChangesOnlyEnsures}
 use Rattle.cast_stub.specs.Bare.{RowsAreBare}
 use Rattle.cast_stub.specs.Layouts.{layout_of}
-use Rattle.cast_stub.specs.Meaning.{wrote, meaning}
+use Rattle.cast_stub.specs.Meaning.{wrote, meaning, costs}
+use Rattle.cast_stub.specs.Met.{moves_by, moves_in}
 use Rattle.cast_stub.specs.Parts.{on_some}
 use Rattle.cast_stub.specs.Puts.{IsHead}
 use Rattle.cast_stub.specs.Steps.{Step, Steps, Calls, both, steps}
-use Rattle.cast_stub.specs.Subs.{calls_of, sent_steps, deepest, no_subs}
+use Rattle.cast_stub.specs.Subs.{calls_of, sent_steps, deepest, no_subs, sub_at}
 use Rattle.cast_stub.specs.Turned.{AllTurned}
 use Rattle.cast_stub.proofs.Appending.{steps-append}
 use Rattle.cast_stub.proofs.Folding.{wrote-append}
@@ -33,12 +35,15 @@ use Rattle.stub_lower.specs.Leads.{AreChunks, Leads}
 use Rattle.stub_lower.specs.Lowered.{CodesSend}
 use Rattle.copy_inline.specs.Inlined.{Does, Goes, Turns}
 use Rattle.copy_inline.specs.Rows as rows
-use Rattle.copy_inline.proofs.RowGiven.{hoisted_given}
+use Rattle.copy_inline.proofs.RowGiven.{framed_bare, hoisted_given}
+use Rattle.copy_inline.proofs.RowReady.{bare_same}
 use Rattle.hoist.specs.Pass.{IsGiven}
 use Rattle.stub_codes.specs.Backs.{encoding, tail}
 use Rattle.stub_codes.specs.Messages.{framed}
 use Rattle.stub_codes.specs.Sending.{AreHeads, IsWhole}
-use Rattle.stub_codes.proofs.Following.{after, chunks-length, chunks-steps, chunks-append}
+use Rattle.stub_codes.proofs.Bounded.{bounded}
+use Rattle.stub_codes.proofs.Following.{after, chunks-flat, chunks-length, chunks-steps, chunks-append}
+use Rattle.stub_codes.proofs.Kept.{HasFew}
 use Rattle.stub_codes.proofs.Stated.{tail_steps, tail_runs, states}
 
 -- ---- steps after others
@@ -82,24 +87,41 @@ module _ (k : Back) (nodes : List Node) (id : ℕ) (subs : List (List SendOp)) (
       let first = chunks-length (code_seen lead.ops) r.chunks.0 r.chunks.1 in
       (r.whole.subs, first.0, (code_seen lead.ops, code_seen body.ops, tail k, id, r.whole.ops, first.1, through, tail_ends k))
 
-  -- and then its rows may be made blocks
-  pub rows_given : Turns subs id body → AllTurned (layout_of (encoding k)) nodes subs → (code : SendCode) → ChangesOnlyEnsures given code
-      → RowsAreBare (type_at nodes id) (code_seen code.ops) → code.subs ≡ [] → rows.IsGiven (encoding k) (type_at nodes id) code
-  rows_given turns turned code adds bare no_codes =
-      let first = chunks-length (code_seen lead.ops) r.chunks.0 r.chunks.1 in
-      hoisted_given (encoding k) (type_at nodes id) given code
-      (record {
-        lead = code_seen lead.ops;
-        body = code_seen body.ops;
-        tail = tail k;
-        size = first.0;
-        below = id;
-        whole = r.whole.ops;
-        leads = first.1;
-        goes = turns (layout_of (encoding k)) nodes r.sound turned;
-        ends = tail_ends k;
-      })
-      adds bare no_codes
+  module _ (turns : Turns subs id body) (turned : AllTurned (layout_of (encoding k)) nodes subs) where
+    framed_rows : rows.IsFramed (encoding k) (type_at nodes id) (code_seen given.ops)
+    framed_rows =
+        let first = chunks-length (code_seen lead.ops) r.chunks.0 r.chunks.1 in
+        record {
+          lead = code_seen lead.ops;
+          body = code_seen body.ops;
+          tail = tail k;
+          size = first.0;
+          below = id;
+          whole = r.whole.ops;
+          leads = first.1;
+          goes = turns (layout_of (encoding k)) nodes r.sound turned;
+          ends = tail_ends k;
+        }
+
+    -- and then its rows may be made blocks
+    pub rows_given : (code : SendCode) → ChangesOnlyEnsures given code → RowsAreBare (type_at nodes id) (code_seen code.ops)
+        → code.subs ≡ [] → rows.IsGiven (encoding k) (type_at nodes id) code
+    rows_given code adds bare no_codes = hoisted_given (encoding k) (type_at nodes id) given code framed_rows adds bare no_codes
+
+    -- which is allowed few moves, and meets few stores
+    pub few : (code rowed : SendCode) → ChangesOnlyEnsures given code → rows.IsRowed (encoding k) (type_at nodes id) code rowed
+        → HasFew (encoding k) (type_at nodes id) rowed
+    few code rowed adds made_rows h v of ss runs =
+        let e = encoding k in
+        let t = type_at nodes id in
+        let bare : unensured (code_seen code.ops) ≡ append (code_seen lead.ops) (append (code_seen body.ops) (tail k)) =
+        adds ∙ bare_same (code_seen given.ops) (framed_bare e t (code_seen given.ops) framed_rows) ∙ r.whole.ops in
+        let c = calls_of rowed.subs h deepest in
+        let g = moves_by 7 (sub_at rowed.subs) deepest in
+        let held = bounded c h g e t (code_seen code.ops) (code_seen lead.ops) (code_seen body.ops) (tail k) r.chunks.0 id v bare
+        (chunks-flat (code_seen lead.ops) r.chunks.0 r.chunks.1) r.chunks.2 (turns (layout_of e) nodes r.sound turned) (tail_ends k) of ss
+        (ap (λ (b : Block). steps c h b v) (sym made_rows) ∙ runs) in
+        (subst (λ (b : Block). moves_in 7 g b v ≤ 8 * (entries e t v + (costs ss).checks)) (sym made_rows) held.0, held.1)
 
   module _ (o : Head → List ℕ) (leads : Leads o lead) (heads : AreHeads k o) where
     -- what the head does

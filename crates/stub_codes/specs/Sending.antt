@@ -1,7 +1,7 @@
 -- What code that sends messages is to be.
-use Rattle.std.specs.Prelude.{◌≡◌, ℕ, ◌≤◌, List, [], length, Some, IfSome}
+use Rattle.std.specs.Prelude.{◌≡◌, ℕ, ◌≤◌, List, [], length, Some}
 use Rattle.mint.specs.Types.{Ty}
-use Rattle.mint.specs.Typed.{IsOf, IsWellTyped}
+use Rattle.mint.specs.Typed.{IsWellTyped}
 use Rattle.mint.specs.Values.{Val}
 use Rattle.wire_def.specs.declared.encoding.Back.{Back}
 use Rattle.wire_def.specs.declared.head.Head.{Head}
@@ -13,10 +13,9 @@ use Rattle.cast_stub.specs.CallFree.{HasNoCall}
 use Rattle.cast_stub.specs.Meaning.{meaning, cost, IsCovered}
 use Rattle.cast_stub.specs.Puts.{IsHead}
 use Rattle.stub_lower.specs.Leads.{Leads}
-use Rattle.copy_inline.specs.Rows.{GivesBlocks}
 use Rattle.stub_codes.specs.Backs.{encoding, tail}
 use Rattle.stub_codes.specs.Messages.{framed}
-use Rattle.stub_codes.specs.Within.{IsWithin}
+use Rattle.stub_codes.specs.Within.{HasCostWithin}
 
 -- the octets of heads after which a body may stand, and in which a length may be stated
 pub record AreHeads (k : Back) (o : Head → List ℕ) : Type 0 where
@@ -34,10 +33,8 @@ pub record Sends (k : Back) (o : Head → List ℕ) (t : Ty) (code : SendCode) :
   pub means : (h : Head) (v : Val) → IsHead h → IsWellTyped t v → meaning code h v 0 ≡ Some (framed k (o h) t v)
   -- the room for all that it appends is ensured before
   pub covered : IsCovered t 0 code
-  -- its cost is within what the message allows
-  pub costs : (h : Head) (v : Val) → IsHead h → IsOf t v → IfSome (cost code h v) (IsWithin (encoding k) (length (o h)) t v)
-  -- the rows and texts that travel as blocks are given as blocks, and no others
-  pub blocks : GivesBlocks (encoding k) t code
+  -- it has a cost, within what the message allows
+  pub costs : (h : Head) (v : Val) → IsHead h → IsWellTyped t v → HasCostWithin (encoding k) (length (o h)) t v (cost code h v)
   pub calls : HasNoCall (code_seen code.ops)
   pub subs : code.subs ≡ []
 

@@ -10,6 +10,7 @@ use crate::backs::{encoding_of, put_tail};
 use crate::lowered::Lowered;
 use cast_stub::copies::put_copies;
 use cast_stub::{SendCode, SendSubs};
+use chunker::{Phase, chunk};
 use copy_inline::{inline, rows};
 use hoist::hoist;
 use kit_base::NoMemory;
@@ -32,7 +33,7 @@ fn whole(alloc: Global, back: Back, lead: SendCode, body: &SendCode) -> Result<S
 }
 
 /// The code that sends the messages of a head and of the values of a node: inlined, its room ensured, its rows as
-/// blocks.
+/// blocks, neighbouring stores in one chunk.
 pub(crate) fn sending(
     alloc: Global,
     back: Back,
@@ -50,5 +51,6 @@ pub(crate) fn sending(
     let body = inline(alloc, &low.sends, id)?;
     let given = whole(alloc, back, lead, &body)?;
     let code = hoist(alloc, &given, mint, id, &low.classes)?;
-    rows(alloc, encoding_of(back), &code, mint, id)
+    let rowed = rows(alloc, encoding_of(back), &code, mint, id)?;
+    chunk(alloc, &rowed, Phase { m: 8, r: 0 })
 }

@@ -1,11 +1,11 @@
-use Rattle.std.proofs.Common.{◌<◌, length, IfOk, sym, subst, arith}
+use Rattle.std.proofs.Common.{◌<◌, length, refl, sym, subst, arith}
 use Rattle.mint.specs.Types.{type_at}
 use Rattle.wire_def.specs.declared.encoding.Encoding.{Encoding}
 use Rattle.copy_inline.specs.Rows.{GivesBlocks}
 use Rattle.copy_inline.specs.Rows as rows
 use Rattle.hoist.specs.Pass.{IsSparing}
 use Rattle.stub_codes.proofs.Kept.{sends_made}
-use Rattle.stub_codes.proofs.Meant.{IsReady, is_given, rows_given, made, is_framed}
+use Rattle.stub_codes.proofs.Meant.{IsReady, is_given, rows_given, few, made, is_framed}
 use Rattle.stub_codes.proofs.sending.sending.Goals as goal
 
 pub inline-requires-clause-id : goal.inline-requires-clause-id
@@ -67,11 +67,19 @@ returns c =
       none = c.in_ok-body.ensures.subs;
       whole = c.in_ok-given.ensures;
     } in
-    sends_made c.args.back t c.args.lead c.in_ok-given.given c.in_ok-code.code
+    sends_made c.args.back t c.args.lead c.in_ok-given.given c.in_ok-code.code c.in_ok-rowed.rowed
     (made c.args.back c.args.mint.now c.args.id c.args.low.now.sends c.args.lead c.in_ok-body.body c.in_ok-given.given ready)
     (is_framed c.args.back c.args.mint.now c.args.id c.args.low.now.sends c.args.lead c.in_ok-body.body c.in_ok-given.given ready)
     c.in_ok-code.ensures.same c.in_ok-code.ensures.covered
     (subst (λ (e : Encoding). IsSparing e t c.in_ok-given.given c.in_ok-code.code) c.requires.lowered.enc c.in_ok-code.ensures.sparing)
-    c.rows.result c.rows.ensures.same c.rows.ensures.covered c.rows.ensures.checks
-    (subst (λ (e : Encoding). IfOk c.rows.result (λ r. GivesBlocks e t r)) c.encoding_of.ensures c.rows.ensures.blocks)
-    c.rows.ensures.calls c.rows.ensures.subs
+    c.in_ok-rowed.ensures.same c.in_ok-rowed.ensures.covered c.in_ok-rowed.ensures.checks
+    (subst (λ (e : Encoding). GivesBlocks e t c.in_ok-rowed.rowed) c.encoding_of.ensures c.in_ok-rowed.ensures.blocks)
+    c.in_ok-rowed.ensures.calls c.in_ok-rowed.ensures.subs
+    (few c.args.back c.args.mint.now c.args.id c.args.low.now.sends c.args.lead c.in_ok-body.body c.in_ok-given.given ready
+    c.in_ok-body.ensures.turned c.requires.lowered.turned c.in_ok-code.code c.in_ok-rowed.rowed c.in_ok-code.ensures.adds
+    (subst (λ (e : Encoding). rows.IsRowed e t c.in_ok-code.code c.in_ok-rowed.rowed) c.encoding_of.ensures c.in_ok-rowed.ensures.rowed))
+    c.chunk.result c.chunk.ensures.same c.chunk.ensures.covered
+    c.chunk.ensures.checks c.chunk.ensures.rows c.chunk.ensures.others c.chunk.ensures.stores c.chunk.ensures.moves
+
+pub chunk-requires : goal.chunk-requires
+chunk-requires c = record { phase = record { multiple = refl; rest = omega arith } }
