@@ -9,11 +9,11 @@ TOP = os.path.dirname(os.path.dirname(os.path.abspath(__file__)))
 CRATE = ("kit_base", {
     "README.md": """# NAME
 
-TO WRITE: what this crate is for, in a noun phrase; an example of its use.
+TO WRITE: what this crate is, in a noun phrase, which `docs/ARCHITECTURE.md` shows; ten lines of use; 80 to 200 words in all.
 
-## What is proved
+## Only tested
 
-- `value` gives `value_of` of the number (`specs/Values.antt`).
+TO WRITE: what no clause says.
 """,
     "src/lib.rt": """//! TO WRITE: what this crate is for, in a noun phrase.
 #![tactic(auto)]
@@ -59,13 +59,12 @@ value_of n = n
 PASS = ("kit_base mint wire_def cast_stub", {
     "README.md": """# NAME
 
-TO WRITE: what the pass makes of stub code, in a noun phrase; an example.
+TO WRITE: what the pass makes of stub code, in a noun phrase, which `docs/ARCHITECTURE.md` shows; ten lines of use. Its clauses
+have names of `cast_stub`: `SendsTheSame`, `IsCoveredFor` (`docs/STUBS.md`, "To write a pass").
 
-## What is proved
+## Only tested
 
-- `pass` gives `passed` of the code (`specs/Passed.antt`).
-
-TO WRITE: what it keeps, as clauses by the names of `cast_stub`: `SendsTheSame`, `IsCoveredFor` (`docs/STUBS.md`, "To write a pass").
+TO WRITE: what no clause says.
 """,
     "src/lib.rt": """//! TO WRITE: what the pass makes of stub code, in a noun phrase.
 #![tactic(auto)]
@@ -115,7 +114,7 @@ passed b = b
 ]
 """})
 NEXT = """next: what it stands on, and its place among the layers, in crates.txt; ./dev {name} checks it;
-its row in docs/ARCHITECTURE.md, its section in docs/PROOFS.md, and what docs/CONTRIBUTING.md asks of {of}"""
+tests/print_docs --write prints it in docs/ARCHITECTURE.md and docs/PROOFS.md; docs/CONTRIBUTING.md has what is asked of {of}"""
 
 
 def make(kind, name):

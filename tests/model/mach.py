@@ -125,8 +125,11 @@ def read_call(message):
     return {"remote": remote, "local": local, "id": id, "used": HEADER}
 
 
-def read_reply(message, expected):
-    """What the head of a reply says that must have an id: its return code is 0 where an answer follows."""
+def read_reply(message, expected, exceptions=0):
+    """What the head of a reply says that must have an id: its return code is 0 where an answer follows.
+
+    Of an operation that raises so many exceptions, the number of the arm stands between the two.
+    """
     remote, local, id = header(message)
     if id != expected:
         raise Stop("Type_", 20)
@@ -135,7 +138,20 @@ def read_reply(message, expected):
         code = reading.scalar("i32", lambda _: True)
     except Stop as stop:
         raise Stop("Item" if stop.kind == "BadItem" else stop.kind, HEADER) from None
-    return {"remote": remote, "local": local, "code": code, "used": reading.at}
+    arm = arm_in(reading, exceptions) if exceptions and code == 0 else 0
+    return {"remote": remote, "local": local, "code": code, "arm": arm, "used": reading.at}
+
+
+def arm_in(reading, exceptions):
+    """The number of an arm, which is unsigned, in an item as that of a return code."""
+    at = reading.at
+    try:
+        arm = reading.scalar("i32", lambda _: True) % 2 ** 32
+    except Stop as stop:
+        raise Stop("Item" if stop.kind == "BadItem" else stop.kind, at) from None
+    if arm > exceptions:
+        raise Stop("Item", at)
+    return arm
 
 
 # ---- heads that are sent
@@ -214,10 +230,10 @@ def told(case):
     """The answer to a case of heads that are read."""
     octets = bytes.fromhex(case["octets"])
     try:
-        said = read_call(octets) if case["ask"] == "mach call" else read_reply(octets, case["id"])
+        said = read_call(octets) if case["ask"] == "mach call" else read_reply(octets, case["id"], case.get("raises", 0))
     except Stop as stop:
         return stop.kind
-    what = f"request {said['id']}" if "id" in said else f"code {said['code']}" if said["code"] else "answer"
+    what = f"request {said['id']}" if "id" in said else f"code {said['code']}" if said["code"] else f"raised {said['arm']}" if said["arm"] else "answer"
     return f"{what} {said['remote']} {said['local']} {said['used']}"
 
 

@@ -31,7 +31,10 @@ class Refused(Exception):
 
 
 class OncReplies(Onc):
-    """Replies of ONC (RFC 5531, section 9), with an empty verifier."""
+    """Replies of ONC (RFC 5531, section 9), with an empty verifier.
+
+    Where the operation raises exceptions, the number of the arm follows the state of success; that is our own.
+    """
 
     number = "xid"
 
@@ -39,7 +42,8 @@ class OncReplies(Onc):
         return not operation.oneway
 
     def reply(self, interface, operation, xid, arm, values):
-        return b"".join(map(word, (xid, 1, 0, 0, 0, 0))) + b"".join(ty.send(v) for ty, v in zip(types_of(operation, arm), values))
+        head = (xid, 1, 0, 0, 0, 0, arm) if operation.raises else (xid, 1, 0, 0, 0, 0)
+        return b"".join(map(word, head)) + b"".join(ty.send(v) for ty, v in zip(types_of(operation, arm), values))
 
     def refusal(self, xid, name, *numbers):
         """A refusal, whose numbers are those of its record."""
@@ -52,11 +56,12 @@ class OncReplies(Onc):
         reader = Reader(octets, 0)
         try:
             xid, refused = read_onc_reply(reader)
+            arm = number_in(reader, len(operation.raises)) if operation.raises and not refused else 0
         except Fault as fault:
             raise HeadFault("Short" if str(fault).startswith("Short") else "Pad") from None
         if refused:
             raise Refused(xid, refused, reader.at)
-        return xid, 0, reader
+        return xid, arm, reader
 
 
 def number_in(reader, greatest=2 ** 32 - 1, fault="Item"):
@@ -112,7 +117,10 @@ class CdrReplies(Cdr):
 
 
 class MachReplies(mach.Mach):
-    """Replies of Mach: the record has the port to which they go."""
+    """Replies of Mach: the record has the port to which they go.
+
+    Where the operation raises exceptions, an item with the number of the arm follows return code 0; that is our own.
+    """
 
     number = "remote"
 
@@ -121,6 +129,8 @@ class MachReplies(mach.Mach):
 
     def reply(self, interface, operation, port, arm, values):
         out = mach.Writing()
+        if operation.raises:
+            out.number("i32", arm)
         for ty, value in zip(types_of(operation, arm), values):
             mach.put(out, ty, value)
         return mach.reply(port, interface.base + interface.slot(operation), 0, out.octets)
@@ -131,10 +141,10 @@ class MachReplies(mach.Mach):
 
     def read_answer(self, interface, operation, octets):
         """The remote port, the arm, and a reader of its values."""
-        said = mach.read_reply(octets, interface.base + interface.slot(operation) + mach.REPLY_ID)
+        said = mach.read_reply(octets, interface.base + interface.slot(operation) + mach.REPLY_ID, len(operation.raises))
         if said["code"]:
             raise Refused(said["remote"], ["RETCODE", said["code"]], said["used"])
-        return said["remote"], 0, mach.Reading(octets, said["used"])
+        return said["remote"], said["arm"], mach.Reading(octets, said["used"])
 
 
 BACKS = {"xdr": OncReplies(), "cdr-be": CdrReplies("big"), "cdr-le": CdrReplies("little"), "mach": MachReplies()}

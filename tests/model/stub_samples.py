@@ -54,8 +54,9 @@ def scalar(encoding, kind, word, path, *more):
     order, width = ORDER_OF[encoding], width_of(encoding, kind)
     if encoding != "mach":
         return (align(width) if encoding != "xdr" else []) + chunk(width, (0, word, path, *more, width, order))
-    item = stated(kind, ITEMS[kind][2]) + bytes(max(4, width))
-    return chunk(len(item), (0, "const", item), (4, word, path, *more, width, order))
+    zeros = bytes(max(4, width) - width)
+    parts = [(0, "const", stated(kind, ITEMS[kind][2])), (4, word, path, *more, width, order), (4 + width, "const", zeros)]
+    return chunk(4 + width + len(zeros), *parts[:3 if zeros else 2])
 
 
 def counted(encoding, node, path, place, more=0):

@@ -1,5 +1,5 @@
 -- A head as one chunk appends its octets.
-use Rattle.std.proofs.Common.{◌≡◌, ℕ, ◌<◌, pos, Bool, true, false, List, [], Option, Some, refl, sym, ap, subst, arith}
+use Rattle.std.proofs.Common.{◌≡◌, ℕ, zero, suc, ◌<◌, pos, Bool, true, false, List, [], Option, Some, refl, sym, ap, subst, arith}
 use Rattle.std.specs.Prelude.{Result, Ok, Err, IfOk, nat_lt}
 use Rattle.std.proofs.lemmas.Bool.{lt-ltb}
 use Rattle.kit_base.specs.declared.errors.NoMemory.{NoMemory}
@@ -20,8 +20,8 @@ use Rattle.cast_stub.proofs.Putting.{if_so}
 use Rattle.stub_lower.specs.Leads.{Leads, AreChunks}
 use Rattle.back_mach.specs.declared.routines.Routine.{Routine}
 use Rattle.back_mach.specs.Words.{word}
-use Rattle.back_mach.specs.Leads.{lead, answer_lead}
-use Rattle.back_mach.specs.Coded.{IsChunk, request_puts, answer_puts}
+use Rattle.back_mach.specs.Leads.{lead, reply_lead, reply_lead_length}
+use Rattle.back_mach.specs.Coded.{IsChunk, request_puts, reply_puts}
 
 pub ruleset coding = (seen-Chunk)
 
@@ -36,8 +36,10 @@ asking : (id : ℕ) (wants : Bool) (h : Head) (v : Val) → IsHead h
 asking id true h v fits = rw (word_of h.remote fits.remote, word_of h.local fits.local) refl
 asking id false h v fits = rw (word_of h.remote fits.remote) refl
 
-answering : (r : Routine) (h : Head) (v : Val) → IsHead h → filled 32 (answer_puts r) h v ≡ Some (answer_lead r h)
-answering r h v fits = rw (word_of h.remote fits.remote) refl
+answering : (r : Routine) (arms arm : ℕ) (h : Head) (v : Val) → IsHead h
+    → filled (reply_lead_length arms) (reply_puts r arms arm) h v ≡ Some (reply_lead r arms arm h)
+answering r zero arm h v fits = rw (word_of h.remote fits.remote) refl
+answering r (suc n) arm h v fits = rw (word_of h.remote fits.remote) refl
 
 chunk_leads : (c : Calls) (h : Head) (v : Val) (p s : ℕ) (ps : List Put) (os : List ℕ) → filled s ps h v ≡ Some os
     → on_some (steps c h (chunk s ps stop) v) (wrote p []) ≡ Some os
@@ -55,8 +57,9 @@ request_chunks : (id : ℕ) (wants : Bool) (code : SendCode) → IsChunk 24 (req
 request_chunks id true code is = (4, rw is refl, omega arith)
 request_chunks id false code is = (3, rw is refl, omega arith)
 
-answer_chunks : (r : Routine) (code : SendCode) → IsChunk 32 (answer_puts r) code → AreChunks code
-answer_chunks r code is = (3, rw is refl, omega arith)
+reply_chunks : (r : Routine) (arms arm : ℕ) (code : SendCode) → IsChunk (reply_lead_length arms) (reply_puts r arms arm) code
+    → AreChunks code
+reply_chunks r arms arm code is = (3, rw is refl, omega arith)
 
 -- ---- of what was made
 
@@ -69,11 +72,14 @@ pub requests_chunk : (d : Result SendCode NoMemory) (r : Routine) → IfOk d (λ
 requests_chunk (Ok code) r is = request_chunks r.id r.wants code is
 requests_chunk (Err e) r is = tt
 
-pub answers_lead : (d : Result SendCode NoMemory) (r : Routine) → IfOk d (λ code. IsChunk 32 (answer_puts r) code)
-    → IfOk d (λ code. Leads (λ h. answer_lead r h) code)
-answers_lead (Ok code) r is = coded_leads 32 (answer_puts r) (answer_lead r) code (λ h v fits. answering r h v fits) is
-answers_lead (Err e) r is = tt
+pub replies_lead : (d : Result SendCode NoMemory) (r : Routine) (arms arm : ℕ)
+    → IfOk d (λ code. IsChunk (reply_lead_length arms) (reply_puts r arms arm) code)
+    → IfOk d (λ code. Leads (λ h. reply_lead r arms arm h) code)
+replies_lead (Ok code) r arms arm is =
+    coded_leads (reply_lead_length arms) (reply_puts r arms arm) (reply_lead r arms arm) code (answering r arms arm) is
+replies_lead (Err e) r arms arm is = tt
 
-pub answers_chunk : (d : Result SendCode NoMemory) (r : Routine) → IfOk d (λ code. IsChunk 32 (answer_puts r) code) → IfOk d AreChunks
-answers_chunk (Ok code) r is = answer_chunks r code is
-answers_chunk (Err e) r is = tt
+pub replies_chunk : (d : Result SendCode NoMemory) (r : Routine) (arms arm : ℕ)
+    → IfOk d (λ code. IsChunk (reply_lead_length arms) (reply_puts r arms arm) code) → IfOk d AreChunks
+replies_chunk (Ok code) r arms arm is = reply_chunks r arms arm code is
+replies_chunk (Err e) r arms arm is = tt

@@ -8,7 +8,7 @@ use Rattle.back_mach.proofs.Replies.{reply_is}
 
 pub heads_are_read : HeadsAreRead
 heads_are_read call n = header_is n
-heads_are_read (reply id) n = reply_is id n
+heads_are_read (reply id arms) n = reply_is id arms n
 
 pub heads_are_single : (w : Way) (o : List ℕ) → IsSingle (format w (length o)) o
 heads_are_single w o = single (format w (length o)) (heads_are_read w (length o)) o

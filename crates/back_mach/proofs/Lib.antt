@@ -4,7 +4,7 @@
 pub mod Headers
 -- The heads of replies are a grammar
 pub mod Replies
--- * A header that is read, and is not the one that is wanted
+-- * A header that is read, and is not the one that is wanted, and what follows a return code
 pub mod Steps
 -- * The laws, over each way
 pub mod Lawful

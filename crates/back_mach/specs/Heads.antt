@@ -7,20 +7,21 @@ use Rattle.back_mach.specs.declared.header.MachHeader.{MachHeader}
 use Rattle.back_mach.specs.Header.{HeaderSpells, HeaderStops, read_header}
 use Rattle.back_mach.specs.Reply.{Reply, ReplySpells, ReplyStops, read_head_of_reply}
 
--- which of the two is read; a reply has to have a certain id
+-- which of the two is read; a reply has to have a certain id, and is to an operation that raises so many exceptions
 pub data Way : Type 0 where
   call : Way
-  reply : ℕ → Way
+  reply : ℕ → ℕ → Way
 
 -- the fields of its head
 abbrev pub HeadOf : Way → Type 0
 HeadOf call = MachHeader
-HeadOf (reply id) = Reply
+HeadOf (reply id arms) = Reply
 
 -- the format of its head, in a message of so many octets
 abbrev pub format : (w : Way) → ℕ → Format (HeadOf w)
 format call n = record { read = read_header n; Spells = HeaderSpells n; Stops = HeaderStops n }
-format (reply id) n = record { read = read_head_of_reply id n; Spells = ReplySpells id n; Stops = ReplyStops id n }
+format (reply id arms) n =
+    record { read = read_head_of_reply id arms n; Spells = ReplySpells id arms n; Stops = ReplyStops id arms n }
 
 -- the first octets of a message, so many, are this head
 abbrev pub BeginsWith : (w : Way) → List ℕ → HeadOf w → ℕ → Type 0

@@ -1,7 +1,8 @@
 -- The heads that are sent, in which the size is set once the message is whole.
-use Rattle.std.specs.Prelude.{ℕ, ◌+◌, ◌*◌, ◌%◌, ◌^◌, Bool, true, false, List, [], ◌∷◌, length}
+use Rattle.std.specs.Prelude.{ℕ, zero, suc, ◌+◌, ◌*◌, ◌%◌, ◌^◌, Bool, true, false, List, [], ◌∷◌, ◌++◌, length}
 use Rattle.kit_base.specs.Bytes.{written}
 use Rattle.wire_def.specs.declared.head.Head.{Head}
+use Rattle.head_arms.specs.Arms.{where_raised}
 use Rattle.back_mach.specs.Words.{word, words}
 use Rattle.back_mach.specs.Reply.{return_word}
 use Rattle.back_mach.specs.declared.routines.Routine.{Routine}
@@ -50,13 +51,14 @@ reply_id id = (id + 100) % 2 ^ 32
 abbrev pub reply_octets : ℕ → ℕ → ℕ → List ℕ
 reply_octets id remote code = words (move_send_once ∷ 0 ∷ remote ∷ 0 ∷ 0 ∷ reply_id id ∷ return_word ∷ code ∷ [])
 
--- the head of an answer
-abbrev pub answer_lead : Routine → Head → List ℕ
-answer_lead r head = reply_octets r.id head.remote 0
+-- the head of a reply with an arm, where so many exceptions are raised
+abbrev pub reply_lead : Routine → ℕ → ℕ → Head → List ℕ
+reply_lead r arms arm head = reply_octets r.id head.remote 0 ++ where_raised arms (words (return_word ∷ arm ∷ []))
 
--- the length of the head of an answer, whatever it says
-abbrev pub answer_lead_length : ℕ
-answer_lead_length = 32
+-- the length of the head of a reply, whatever it says
+abbrev pub reply_lead_length : ℕ → ℕ
+reply_lead_length zero = 32
+reply_lead_length (suc n) = 40
 
 -- ---- the size
 

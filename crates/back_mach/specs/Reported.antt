@@ -5,7 +5,8 @@ use Rattle.wire_def.specs.declared.head.Head.{Head}
 use Rattle.wire_def.specs.declared.head.Order.TheVariants.{Big}
 use Rattle.wire_def.specs.declared.reply.ReplyHead.{ReplyHead}
 use Rattle.wire_def.specs.declared.reply.Status.{Status}
-use Rattle.wire_def.specs.declared.reply.Status.TheVariants.{Answer, RetCode}
+use Rattle.wire_def.specs.declared.reply.Status.TheVariants.{RetCode}
+use Rattle.head_arms.specs.Arms.{arm_status}
 use Rattle.head_kit.specs.Heads.{Begins}
 use Rattle.back_mach.specs.declared.call.MachCall.{MachCall}
 use Rattle.back_mach.specs.declared.header.MachHeader.{MachHeader}
@@ -20,19 +21,19 @@ shared_head remote local = record { id = 0; remote = remote; local = local; want
 abbrev pub call_reported : MachHeader → ℕ → MachCall
 call_reported h used = record { head = shared_head h.remote h.local; id = h.id; used = used }
 
--- a return code of 0 is an answer, and any other a refusal
-abbrev pub status_of : ℕ → Status
-status_of zero = Answer
-status_of (suc m) = RetCode (cast_signed w32 (suc m))
+-- behind a return code of 0 there is an arm, and any other is a refusal
+abbrev pub status_of : ℕ → ℕ → Status
+status_of zero arm = arm_status arm
+status_of (suc m) arm = RetCode (cast_signed w32 (suc m))
 
 -- how a request fared, by a head of so many octets
 abbrev pub reply_reported : Reply → ℕ → ReplyHead
-reply_reported r used = record { head = shared_head r.header.remote r.header.local; status = status_of r.code; used = used }
+reply_reported r used = record { head = shared_head r.header.remote r.header.local; status = status_of r.code r.arm; used = used }
 
 -- a message begins with the head of a request, of which this is reported
 abbrev pub BeginsCall : List ℕ → MachCall → Type 0
 BeginsCall message = Begins (format call (length message)) call_reported message
 
--- a message begins with the head of a reply with an id, of which this is reported
-abbrev pub BeginsReply : ℕ → List ℕ → ReplyHead → Type 0
-BeginsReply id message = Begins (format (reply id) (length message)) reply_reported message
+-- a message begins with the head of a reply with an id to an operation that raises so many exceptions, of which this is reported
+abbrev pub BeginsReply : ℕ → ℕ → List ℕ → ReplyHead → Type 0
+BeginsReply id arms message = Begins (format (reply id arms) (length message)) reply_reported message

@@ -1,6 +1,6 @@
 //! The laws of the heads, each the contract of a function that does nothing.
 
-ghost use Rattle.back_mach.specs.Laws.{AnswersAreRead, HeadsAreDecided, HeadsAreRead, IsNamedRight, LeadsHaveOneLength, OwnHaveOctets, RefusalsAreRead, RequestsAreRead};
+ghost use Rattle.back_mach.specs.Laws.{HeadsAreDecided, HeadsAreRead, IsNamedRight, LeadsHaveOneLength, OwnHaveOctets, RefusalsAreRead, RepliesAreRead, RequestsAreRead};
 
 /// A message begins with a head, or there is a first item that is cut off or wrong: one of the
 /// two, and the head, its length and the fault are determined.
@@ -23,9 +23,9 @@ pub fn requests_are_read()
     ensures { RequestsAreRead }
 {}
 
-/// The head that is sent of an answer is read as the answer to its request.
-pub fn answers_are_read()
-    ensures { AnswersAreRead }
+/// The head that is sent of a reply is read as the reply with its arm.
+pub fn replies_are_read()
+    ensures { RepliesAreRead }
 {}
 
 /// The reply that refuses a request is read as its refusal.
@@ -33,7 +33,7 @@ pub fn refusals_are_read()
     ensures { RefusalsAreRead }
 {}
 
-/// The length of a head depends on its operation, and not on the ports.
+/// The length of a head depends on its operation, and neither on the ports nor on the arm.
 pub fn leads_have_one_length()
     ensures { LeadsHaveOneLength }
 {}

@@ -7,14 +7,16 @@ ghost use Rattle.cast_stub.specs.declared.put.Put.TheVariants as put;
 ghost use Rattle.cast_stub.specs.Block.{op_seen, patch};
 ghost use Rattle.stub_lower.specs.Leads.{Leads, AreChunks};
 ghost use Rattle.back_mach.specs.Words.{words};
-ghost use Rattle.back_mach.specs.Coded.{IsChunk, answer_puts, request_puts};
-ghost use Rattle.back_mach.specs.Leads.{lead, answer_lead};
+ghost use Rattle.back_mach.specs.Coded.{IsChunk, last_words, reply_puts, request_puts};
+ghost use Rattle.back_mach.specs.Leads.{lead, reply_lead, reply_lead_length};
 ghost use Rattle.back_mach.specs.Routines.{routine_of};
+ghost use Rattle.head_arms.specs.Raised.{exceptions};
 
 use crate::putting::{MOVE_SEND_ONCE, reply_id, request_bits};
 use crate::reply::RETURN;
 use crate::routines::{Routine, routine_of};
 use cast_stub::{HeadField, Put, Puts, SendCode, SendOp, SendOps, SendSubs};
+use head_arms::exceptions_of;
 use kit_base::{NoMemory, Octets};
 use pres::Bound;
 use std::alloc::Global;
@@ -74,15 +76,35 @@ fn request_puts(alloc: Global, routine: Routine) -> Result<Puts, NoMemory>
     Ok(puts)
 }
 
-/// The puts of the head of an answer.
-fn answer_puts(alloc: Global, routine: Routine) -> Result<Puts, NoMemory>
-    ensures { IfOk result (λ puts. puts ≡ answer_puts routine) }
+/// The words of the head of a reply with an arm, behind the remote port, where so many exceptions
+/// are raised.
+fn last_words(alloc: Global, routine: Routine, arms: u32, arm: u32) -> Result<Put, NoMemory>
+    ensures { IfOk result (λ p. p ≡ put.Const 12 (words (last_words routine arms arm))) }
+{
+    let id = reply_id(routine.id);
+    if arms == 0 {
+        constant(alloc, 12, &[0, 0, id, RETURN, 0])
+    } else {
+        constant(alloc, 12, &[0, 0, id, RETURN, 0, RETURN, arm])
+    }
+}
+
+/// The puts of the head of a reply with an arm, where so many exceptions are raised.
+fn reply_puts(alloc: Global, routine: Routine, arms: u32, arm: u32) -> Result<Puts, NoMemory>
+    ensures { IfOk result (λ puts. puts ≡ reply_puts routine arms arm) }
 {
     let mut puts = Puts::new(alloc);
     puts.push(constant(alloc, 0, &[MOVE_SEND_ONCE, 0])?)?;
     puts.push(port(8, HeadField::Remote))?;
-    puts.push(constant(alloc, 12, &[0, 0, reply_id(routine.id), RETURN, 0])?)?;
+    puts.push(last_words(alloc, routine, arms, arm)?)?;
     Ok(puts)
+}
+
+/// How many octets the head of a reply has, where so many exceptions are raised.
+fn reply_length(arms: u32) -> u32
+    ensures { result ≡ reply_lead_length arms }
+{
+    if arms == 0 { 32 } else { 40 }
 }
 
 /// One chunk of the head of a request.
@@ -93,12 +115,13 @@ fn request_code(alloc: Global, routine: Routine) -> Result<SendCode, NoMemory>
     chunk_of(alloc, 24, puts)
 }
 
-/// One chunk of the head of an answer.
-fn answer_code(alloc: Global, routine: Routine) -> Result<SendCode, NoMemory>
-    ensures { IfOk result (λ code. IsChunk 32 (answer_puts routine) code) }
+/// One chunk of the head of a reply with an arm, where so many exceptions are raised.
+fn reply_code(alloc: Global, routine: Routine, arms: u32, arm: u32) -> Result<SendCode, NoMemory>
+    ensures { IfOk result
+        (λ code. IsChunk (reply_lead_length arms) (reply_puts routine arms arm) code) }
 {
-    let puts = answer_puts(alloc, routine)?;
-    chunk_of(alloc, 32, puts)
+    let puts = reply_puts(alloc, routine, arms, arm)?;
+    chunk_of(alloc, reply_length(arms), puts)
 }
 
 /// The head of an operation's request. The size is set by `size_patch`.
@@ -111,15 +134,16 @@ pub fn lead_call(alloc: Global, bound: &Bound, op: u32) -> Result<SendCode, NoMe
     request_code(alloc, routine_of(bound, op))
 }
 
-/// The head of an operation's answer, which is the same for every arm. The size is set by
-/// `size_patch`.
-pub fn lead_reply(alloc: Global, bound: &Bound, op: u32, _arm: u32) -> Result<SendCode, NoMemory>
+/// The head of a reply to an operation with an arm: 0 for the answer, k for the k-th exception. The
+/// size is set by `size_patch`.
+pub fn lead_reply(alloc: Global, bound: &Bound, op: u32, arm: u32) -> Result<SendCode, NoMemory>
     requires mach { bound.now.back ≡ Mach }
     requires op { op < length bound.now.ops }
-    ensures means { IfOk result (λ code. Leads (λ h. answer_lead (routine_of bound.now op) h) code) }
+    ensures means { IfOk result (λ code.
+        Leads (λ h. reply_lead (routine_of bound.now op) (exceptions bound.now op) arm h) code) }
     ensures chunks { IfOk result AreChunks }
 {
-    answer_code(alloc, routine_of(bound, op))
+    reply_code(alloc, routine_of(bound, op), exceptions_of(bound, op), arm)
 }
 
 /// The operation that sets the size of a message, once all of it is there: the number of all its

@@ -20,8 +20,8 @@ mod shared;
 pub use call::{MachCall, read_call};
 pub use header::MachHeader;
 pub use laws::{
-    answers_are_read, begins_or_stops, heads_are_read, leads_have_one_length,
-    own_refusals_have_octets, refusals_are_read, requests_are_named_right, requests_are_read,
+    begins_or_stops, heads_are_read, leads_have_one_length, own_refusals_have_octets,
+    refusals_are_read, replies_are_read, requests_are_named_right, requests_are_read,
 };
 pub use leads::{lead_call, lead_reply, size_patch};
 pub use lowering::lower_send;

@@ -1,5 +1,5 @@
 -- A head as one chunk appends its octets.
-use Rattle.std.proofs.Common.{◌≡◌, ℕ, suc, ◌+◌, ◌*◌, ◌<◌, List, [], ◌∷◌, ◌++◌, length, Some, refl, sym, subst, arith, length-append}
+use Rattle.std.proofs.Common.{◌≡◌, ℕ, zero, suc, ◌+◌, ◌*◌, ◌<◌, List, [], ◌∷◌, ◌++◌, length, Some, refl, sym, subst, arith, length-append}
 use Rattle.std.specs.Prelude.{Result, Ok, Err, IfOk}
 use Rattle.kit_base.specs.declared.errors.NoMemory.{NoMemory}
 use Rattle.kit_base.specs.Bytes.{be}
@@ -20,6 +20,7 @@ use Rattle.cast_stub.proofs.Putting.{word_of, placed_whole, full_whole}
 use Rattle.stub_lower.specs.Leads.{Leads, AreChunks}
 use Rattle.raw_buf.specs.Words.{words}
 use Rattle.back_xdr.specs.Coded.{IsCoded}
+use Rattle.back_xdr.specs.Leads.{reply_lead}
 
 length-words : (ns : List ℕ) → length (words ns) ≡ 4 * length ns
 length-words [] = refl
@@ -54,3 +55,18 @@ leads_made (Err e) ns is = tt
 pub chunks_made : (r : Result SendCode NoMemory) (ns : List ℕ) → IfOk r (λ code. IsCoded ns code) → IfOk r AreChunks
 chunks_made (Ok code) ns is = coded_chunks ns code is
 chunks_made (Err e) ns is = tt
+
+-- ---- replies
+
+-- where nothing is raised, the head has no arm
+pub bare_leads : (arms arm : ℕ) (r : Result SendCode NoMemory) → arms ≡ 0
+    → IfOk r (λ code. Leads (λ h. words (h.id ∷ 1 ∷ 0 ∷ 0 ∷ 0 ∷ 0 ∷ [])) code) → IfOk r (λ code. Leads (λ h. reply_lead arms arm h.id) code)
+bare_leads zero arm r none leads = leads
+bare_leads (suc n) arm r none leads = absurd cc
+
+-- and where exceptions are raised, it has one
+pub arm_leads : (arms arm : ℕ) (r : Result SendCode NoMemory) → (arms ≡ 0 → ⊥)
+    → IfOk r (λ code. Leads (λ h. words (h.id ∷ 1 ∷ 0 ∷ 0 ∷ 0 ∷ 0 ∷ arm ∷ [])) code)
+    → IfOk r (λ code. Leads (λ h. reply_lead arms arm h.id) code)
+arm_leads zero arm r some leads = absurd (some refl)
+arm_leads (suc n) arm r some leads = leads

@@ -8,7 +8,7 @@ use Rattle.back_xdr.proofs.Replies.{reply_is}
 
 pub heads_are_read : HeadsAreRead
 heads_are_read call = call_is
-heads_are_read reply = reply_is
+heads_are_read (reply arms) = reply_is arms
 
 pub heads_are_single : (w : Way) (o : List ℕ) → IsSingle (format w) o
 heads_are_single w o = single (format w) (heads_are_read w) o

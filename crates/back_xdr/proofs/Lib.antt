@@ -24,7 +24,7 @@ pub mod Coding
 pub mod Named
 -- A message has one head of a call or one first fault of it, over a binding too
 pub mod Heading
--- * The head that is sent is read as the call of its procedure, and has one length
+-- * Heads that are sent are read as what they are sent for, and have one length
 pub mod Sent
 -- * The refusals of this format are those that have octets
 pub mod Refusing

@@ -6,20 +6,20 @@ use Rattle.head_kit.specs.Heads.{Format}
 use Rattle.back_xdr.specs.Call.{Call, CallSpells, CallStops, read_head_of_call}
 use Rattle.back_xdr.specs.Reply.{Reply, ReplySpells, ReplyStops, read_head_of_reply}
 
--- which of the two is read
+-- which of the two is read; a reply is to a procedure that raises so many exceptions
 pub data Way : Type 0 where
   call : Way
-  reply : Way
+  reply : ℕ → Way
 
 -- the fields of its head
 abbrev pub HeadOf : Way → Type 0
 HeadOf call = Call
-HeadOf reply = Reply
+HeadOf (reply arms) = Reply
 
 -- the format of its head
 abbrev pub format : (w : Way) → Format (HeadOf w)
 format call = record { read = read_head_of_call; Spells = CallSpells; Stops = CallStops }
-format reply = record { read = read_head_of_reply; Spells = ReplySpells; Stops = ReplyStops }
+format (reply arms) = record { read = read_head_of_reply arms; Spells = ReplySpells arms; Stops = ReplyStops arms }
 
 -- the first octets of a message, so many, are this head
 abbrev pub BeginsWith : (w : Way) → List ℕ → HeadOf w → ℕ → Type 0

@@ -1,18 +1,20 @@
 -- Laws of the heads.
-use Rattle.std.specs.Prelude.{◌≡◌, ◌↔◌, ℕ, List, ◌++◌, length, Some}
+use Rattle.std.specs.Prelude.{◌≡◌, ◌≤◌, ◌↔◌, ℕ, List, ◌++◌, length, Some}
 use Rattle.wire_def.specs.Grammar.{AreOctets}
 use Rattle.wire_def.specs.declared.outcome.Refusal.{Refusal}
+use Rattle.wire_def.specs.declared.reply.ReplyHead.{ReplyHead}
+use Rattle.head_arms.specs.Arms.{arm_status}
 use Rattle.head_kit.specs.Heads.{IsDecided, IsRead}
 use Rattle.head_kit.specs.declared.called.Naming.TheVariants.{Operation}
 use Rattle.pres.specs.Bindings.{Binding}
 use Rattle.back_xdr.specs.declared.call.OncCall.{OncCall}
 use Rattle.back_xdr.specs.declared.procedures.Procedure.{Procedure}
 use Rattle.back_xdr.specs.Heads.{Way, format}
-use Rattle.back_xdr.specs.Leads.{lead, lead_length, answer_lead}
+use Rattle.back_xdr.specs.Leads.{lead, lead_length, reply_lead, reply_lead_length}
 use Rattle.back_xdr.specs.Procedures.{procedure_of}
 use Rattle.back_xdr.specs.Refusals.{IsOwn, refusal_octets}
 use Rattle.back_xdr.specs.Seeking.{named}
-use Rattle.back_xdr.specs.Reported.{BeginsCall, shared_head}
+use Rattle.back_xdr.specs.Reported.{BeginsCall, BeginsReply, shared_head}
 use Rattle.head_kit.specs.Words.{IsWord}
 
 -- each message begins with a head or stops with a fault, one of the two, and which head and which fault is determined
@@ -43,14 +45,23 @@ call_of p id = record { head = shared_head id; program = p.program; version = p.
 abbrev pub LeadsAreRead : Type 0
 LeadsAreRead = (p : Procedure) (id : ℕ) (o : List ℕ) → IsWord id → AreWords p → BeginsCall (lead p id ++ o) (call_of p id)
 
--- the heads of one procedure, whatever their transactions, have one length
-pub record HaveOneLength (p : Procedure) : Type 0 where
-  pub calls : (id : ℕ) → length (lead p id) ≡ length (lead p 0)
-  pub replies : (id : ℕ) → length (answer_lead id) ≡ length (answer_lead 0)
+-- what is reported of the head of a reply with an arm
+abbrev pub reply_of : ℕ → ℕ → ℕ → ReplyHead
+reply_of arms arm id = record { head = shared_head id; status = arm_status arm; used = reply_lead_length arms }
+
+-- the head that is sent of a reply is read as the reply with that arm, whatever follows
+abbrev pub RepliesAreRead : Type 0
+RepliesAreRead = (arms arm id : ℕ) (o : List ℕ) → IsWord id → IsWord arm → arm ≤ arms
+    → BeginsReply arms (reply_lead arms arm id ++ o) (reply_of arms arm id)
+
+-- the heads of one procedure, whatever their transactions and arms, have one length
+pub record HaveOneLength (p : Procedure) (arms : ℕ) : Type 0 where
+  pub calls : (id : ℕ) → length (lead p id) ≡ lead_length
+  pub replies : (arm id : ℕ) → length (reply_lead arms arm id) ≡ reply_lead_length arms
 
 -- so it is of each procedure
 abbrev pub LeadsHaveOneLength : Type 0
-LeadsHaveOneLength = (p : Procedure) → HaveOneLength p
+LeadsHaveOneLength = (p : Procedure) (arms : ℕ) → HaveOneLength p arms
 
 -- the refusals of this format are those that have octets
 abbrev pub OwnHaveOctets : Type 0

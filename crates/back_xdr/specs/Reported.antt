@@ -31,6 +31,6 @@ reply_reported r used = record { head = shared_head r.xid; status = status_of r.
 abbrev pub BeginsCall : List ℕ → OncCall → Type 0
 BeginsCall = Begins (format call) call_reported
 
--- a message begins with the head of a reply, of which this is reported
-abbrev pub BeginsReply : List ℕ → ReplyHead → Type 0
-BeginsReply = Begins (format reply) reply_reported
+-- a message begins with the head of a reply to a procedure that raises so many exceptions, of which this is reported
+abbrev pub BeginsReply : ℕ → List ℕ → ReplyHead → Type 0
+BeginsReply arms = Begins (format (reply arms)) reply_reported

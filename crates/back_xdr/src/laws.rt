@@ -1,6 +1,6 @@
 //! The laws of the heads, each the contract of a function that does nothing.
 
-ghost use Rattle.back_xdr.specs.Laws.{HeadsAreDecided, HeadsAreRead, IsNamedRight, LeadsAreRead, LeadsHaveOneLength, OwnHaveOctets};
+ghost use Rattle.back_xdr.specs.Laws.{HeadsAreDecided, HeadsAreRead, IsNamedRight, LeadsAreRead, LeadsHaveOneLength, OwnHaveOctets, RepliesAreRead};
 
 /// A message begins with a head, or there is a first item that is cut off or wrong: one of the
 /// two, and the head, its length and the fault are determined.
@@ -23,7 +23,12 @@ pub fn leads_are_read()
     ensures { LeadsAreRead }
 {}
 
-/// The length of a head depends on what is called, and not on the transaction.
+/// The head that is sent of a reply is read as the reply with its arm.
+pub fn replies_are_read()
+    ensures { RepliesAreRead }
+{}
+
+/// The length of a head depends on what is called, and neither on the transaction nor on the arm.
 pub fn leads_have_one_length()
     ensures { LeadsHaveOneLength }
 {}

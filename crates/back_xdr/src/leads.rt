@@ -5,11 +5,13 @@ ghost use Rattle.wire_def.specs.declared.encoding.Back.TheVariants.{Xdr};
 ghost use Rattle.stub_lower.specs.Leads.{Leads, AreChunks};
 ghost use Rattle.back_xdr.specs.Coded.{IsCoded};
 ghost use Rattle.raw_buf.specs.Words.{words};
-ghost use Rattle.back_xdr.specs.Leads.{lead, answer_lead};
+ghost use Rattle.back_xdr.specs.Leads.{lead, reply_lead};
 ghost use Rattle.back_xdr.specs.Procedures.{procedure_of};
+ghost use Rattle.head_arms.specs.Raised.{exceptions};
 
 use crate::procedures::procedure_of;
 use cast_stub::{HeadField, Put, Puts, SendCode, SendOp, SendOps, SendSubs};
+use head_arms::exceptions_of;
 use kit_base::{NoMemory, Octets};
 use pres::Bound;
 use std::alloc::Global;
@@ -75,10 +77,24 @@ pub fn lead_call(alloc: Global, bound: &Bound, op: u32) -> Result<SendCode, NoMe
     code_of(alloc, &numbers)
 }
 
-/// The head of an operation's answer, which is the same for every operation and arm.
-pub fn lead_reply(alloc: Global, _bound: &Bound, _op: u32, _arm: u32) -> Result<SendCode, NoMemory>
-    ensures means { IfOk result (λ code. Leads (λ h. answer_lead h.id) code) }
+/// The head of a reply with an arm, where so many exceptions are raised.
+fn reply_code(alloc: Global, arms: u32, arm: u32) -> Result<SendCode, NoMemory>
+    ensures means { IfOk result (λ code. Leads (λ h. reply_lead arms arm h.id) code) }
     ensures chunks { IfOk result AreChunks }
 {
-    code_of(alloc, &[1, 0, 0, 0, 0])
+    if arms == 0 {
+        code_of(alloc, &[1, 0, 0, 0, 0])
+    } else {
+        code_of(alloc, &[1, 0, 0, 0, 0, arm])
+    }
+}
+
+/// The head of a reply to an operation with an arm: 0 for the answer, k for the k-th exception.
+pub fn lead_reply(alloc: Global, bound: &Bound, op: u32, arm: u32) -> Result<SendCode, NoMemory>
+    requires op { op < length bound.now.ops }
+    ensures means { IfOk result (λ code.
+        Leads (λ h. reply_lead (exceptions bound.now op) arm h.id) code) }
+    ensures chunks { IfOk result AreChunks }
+{
+    reply_code(alloc, exceptions_of(bound, op), arm)
 }

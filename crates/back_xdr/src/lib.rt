@@ -19,7 +19,7 @@ mod shared;
 pub use call::{OncCall, read_call};
 pub use laws::{
     begins_or_stops, calls_are_named_right, heads_are_read, leads_are_read, leads_have_one_length,
-    own_refusals_have_octets,
+    own_refusals_have_octets, replies_are_read,
 };
 pub use leads::{lead_call, lead_reply};
 pub use lowering::lower_send;

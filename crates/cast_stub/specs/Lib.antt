@@ -4,6 +4,7 @@ pub mod Block
 pub mod CallFree
 pub mod Draft
 pub mod Entered
+pub mod Entries
 pub mod Fill
 pub mod Follows
 pub mod Framed
@@ -11,9 +12,11 @@ pub mod Got
 pub mod InStep
 pub mod Into
 pub mod Kept
+pub mod KeptAt
 pub mod Laws
 pub mod Layouts
 pub mod Meaning
+pub mod Met
 pub mod PartTypes
 pub mod Parts
 pub mod PutPart
@@ -22,6 +25,7 @@ pub mod RecvAppend
 pub mod RecvBlock
 pub mod Rowless
 pub mod Runs
+pub mod Skeletons
 pub mod Steps
 pub mod Subs
 pub mod Traces

@@ -36,12 +36,21 @@ fn request_of(alloc: Global, id: u32, head: &Head, used: usize) -> Result<String
 pub fn reply(alloc: Global, row: &Json) -> Result<String, Bad> {
     let message = octets(alloc, member(row, "octets")?)?;
     let id = word(member(row, "id")?)?;
-    reply_said(alloc, message.as_slice(), id)
+    reply_said(alloc, message.as_slice(), id, exceptions(row)?)
 }
 
-/// What the head of a reply says that must have an id, or the first fault.
-fn reply_said(alloc: Global, message: &[u8], id: u32) -> Result<String, Bad> {
-    match read_reply(message, id) {
+/// How many exceptions the operation of a row raises: none where it does not say.
+fn exceptions(row: &Json) -> Result<u32, Bad> {
+    match row.get("raises") {
+        Some(count) => word(count),
+        None => Ok(0),
+    }
+}
+
+/// What the head of a reply says that must have an id, or the first fault, where so many exceptions
+/// are raised.
+fn reply_said(alloc: Global, message: &[u8], id: u32, arms: u32) -> Result<String, Bad> {
+    match read_reply(message, id, arms) {
         Ok(reply) => fate(alloc, &reply),
         Err(fault) => fault_of(alloc, fault),
     }
@@ -51,6 +60,7 @@ fn reply_said(alloc: Global, message: &[u8], id: u32) -> Result<String, Bad> {
 fn fate(alloc: Global, reply: &ReplyHead<'_>) -> Result<String, Bad> {
     match reply.status {
         Status::Answer => answer_of(alloc, &reply.head, reply.used),
+        Status::Raised(number) => raised_of(alloc, number, &reply.head, reply.used),
         Status::RetCode(code) => code_of(alloc, code, &reply.head, reply.used),
         _ => Err(Bad::Row("no status of these replies")),
     }
@@ -59,6 +69,11 @@ fn fate(alloc: Global, reply: &ReplyHead<'_>) -> Result<String, Bad> {
 /// An answer by its ports and the length of its head.
 fn answer_of(alloc: Global, head: &Head, used: usize) -> Result<String, Bad> {
     Ok(format!(in alloc; "answer {} {} {used}", head.remote, head.local)?)
+}
+
+/// An exception by its number, its ports and the length of its head.
+fn raised_of(alloc: Global, number: u32, head: &Head, used: usize) -> Result<String, Bad> {
+    Ok(format!(in alloc; "raised {number} {} {} {used}", head.remote, head.local)?)
 }
 
 /// A return code, by itself, its ports and the length of its head.

@@ -1,5 +1,5 @@
 -- That hoisted code after a lead may be run, by induction on the lead's code and on the body's steps.
-use Rattle.std.proofs.Common.{◌≡◌, ℕ, ◌+◌, ◌-◌, ◌^◌, ◌%◌, ◌<◌, ◌≤◌, List, [], ◌∷◌, ◌++◌, length, replicate, get_or, Option, None, Some, option_map, Result, Ok, Err, IfOk, refl, sym, ap, subst, ◌∙◌, arith, length-append, Bool, true, false, ◌&&◌, nat_le, if◌then◌else◌}
+use Rattle.std.proofs.Common.{◌≡◌, ℕ, zero, suc, ◌+◌, ◌-◌, ◌^◌, ◌%◌, ◌<◌, ◌≤◌, List, [], ◌∷◌, ◌++◌, length, replicate, get_or, Option, None, Some, option_map, Result, Ok, Err, IfOk, refl, sym, ap, subst, ◌∙◌, arith, length-append, Bool, true, false, ◌&&◌, nat_le, if◌then◌else◌}
 use Rattle.std.specs.Prelude.{slice_get}
 use Rattle.std.proofs.lemmas.List.{length-replicate}
 use Rattle.std.proofs.lemmas.Option.{slice_get-get_or}
@@ -43,7 +43,7 @@ use Rattle.cast_stub.specs.Turned.{AllTurned}
 use Rattle.cast_stub.specs.Framed.{lead_length}
 use Rattle.cast_stub.proofs.Followed.{mapped}
 use Rattle.back_xdr.specs.declared.procedures.Procedure.{Procedure}
-use Rattle.back_xdr.specs.Leads.{lead, answer_lead}
+use Rattle.back_xdr.specs.Leads.{lead, reply_lead}
 use Rattle.check_stubs.specs.Ready.{IsLead, IsBoth}
 
 -- ---- chunks
@@ -225,10 +225,12 @@ pub lead_ready : {E : Type 0} (r : Result SendCode E) (p : Procedure) → IfOk r
 lead_ready (Ok code) p means chunks = record { chunks = chunks; words = λ h v head. (lead p h.id, means h v 0 head, whole_words p h.id) }
 lead_ready (Err e) p means chunks = tt
 
-answer_words : (id : ℕ) → length (answer_lead id) % 4 ≡ 0
-answer_words id = refl
+answer_words : (arms id : ℕ) → length (reply_lead arms 0 id) % 4 ≡ 0
+answer_words zero id = refl
+answer_words (suc n) id = refl
 
-pub answer_ready : {E : Type 0} (r : Result SendCode E) → IfOk r (Leads (λ h. answer_lead h.id)) → IfOk r AreChunks → IfOk r IsLead
-answer_ready (Ok code) means chunks =
-    record { chunks = chunks; words = λ h v head. (answer_lead h.id, means h v 0 head, answer_words h.id) }
-answer_ready (Err e) means chunks = tt
+pub answer_ready : {E : Type 0} (arms : ℕ) (r : Result SendCode E) → IfOk r (Leads (λ h. reply_lead arms 0 h.id)) → IfOk r AreChunks
+    → IfOk r IsLead
+answer_ready arms (Ok code) means chunks =
+    record { chunks = chunks; words = λ h v head. (reply_lead arms 0 h.id, means h v 0 head, answer_words arms h.id) }
+answer_ready arms (Err e) means chunks = tt

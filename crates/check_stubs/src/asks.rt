@@ -27,7 +27,7 @@ use wire_def::Encoding;
 /// The answer to a case about a head, by what is asked.
 fn head_answer(alloc: Global, row: &Json, ask: &str) -> Result<String, Bad> {
     match ask {
-        "reply" => reply(alloc, octets(alloc, member(row, "octets")?)?.as_slice()),
+        "reply" => reply(alloc, row),
         "refuse" => refused(alloc, member(row, "why")?),
         _ => Err(Bad::Row("nothing is asked")),
     }

@@ -4,7 +4,7 @@ ghost use Rattle.std.specs.Prelude.{IfOk};
 ghost use Rattle.back_xdr.specs.Refusals.{IsOwn};
 
 use crate::lead::HEAD;
-use crate::parts::{Bad, part, word};
+use crate::parts::{Bad, member, octets, part, word};
 use back_xdr::{put_refusal, read_reply};
 use hex::encode;
 use raw_buf::SendBuf;
@@ -12,9 +12,24 @@ use serde_json::Value as Json;
 use std::alloc::Global;
 use wire_def::Refusal;
 
-/// What the head of a reply says, its transaction and how many octets it has, or the first fault.
-pub fn reply(alloc: Global, message: &[u8]) -> Result<String, Bad> {
-    match read_reply(message) {
+/// How many exceptions the procedure of a row raises: none where it does not say.
+fn exceptions(row: &Json) -> Result<u32, Bad> {
+    match row.get("raises") {
+        Some(count) => word(count),
+        None => Ok(0),
+    }
+}
+
+/// What the head of the reply of a row says, its transaction and how many octets it has, or the
+/// first fault.
+pub fn reply(alloc: Global, row: &Json) -> Result<String, Bad> {
+    let message = octets(alloc, member(row, "octets")?)?;
+    reply_said(alloc, message.as_slice(), exceptions(row)?)
+}
+
+/// What the head of a reply says, where so many exceptions are raised.
+fn reply_said(alloc: Global, message: &[u8], arms: u32) -> Result<String, Bad> {
+    match read_reply(message, arms) {
         Ok(reply) => {
             Ok(format!(in alloc; "{:?} {} {}", reply.status, reply.head.id, reply.used)?)
         }

@@ -90,5 +90,8 @@ pub fn answer(alloc: Global) -> Result<SendCode, NoMemory>
     ensures { IfOk result IsLead }
 {
     let bound = bound(alloc)?;
+    if bound.ops().len() == 0 {
+        return Err(NoMemory);
+    }
     lead_reply(alloc, &bound, 0, 0)
 }

@@ -89,7 +89,7 @@ typed_unensured None h b f g go = refl
 typed_unensured (Some a) h b f g go = go a
 
 mutual
-  rowed-unensured : (e : Encoding) (b : Block) (t : Ty) → unensured (rowed e t b) ≡ rowed e t (unensured b)
+  pub rowed-unensured : (e : Encoding) (b : Block) (t : Ty) → unensured (rowed e t b) ≡ rowed e t (unensured b)
   rowed-unensured e stop t = refl
   rowed-unensured e (ensure n r) t = rowed-unensured e r t
   rowed-unensured e (ensure_row p u x r) t = rowed-unensured e r t
@@ -265,7 +265,7 @@ all_over f g t no_more h go = refl
 all_over f g t (val w vs) h go = counts_both (f w) (over f vs) (g w) (over_all g vs) (go w h.0) (all_over f g t vs h.1 go)
 
 module _ (e : Encoding) (c : Calls) (h : Head) where
-  flat_rowed : (t : Ty) (b : Block) (n : ℕ) → flat b ≡ Some n → rowed e t b ≡ b
+  pub flat_rowed : (t : Ty) (b : Block) (n : ℕ) → flat b ≡ Some n → rowed e t b ≡ b
   flat_rowed t stop n f = refl
   flat_rowed t (chunk s ps r) n f = let m = mapped (λ k. length ps + k) (flat r) n f in ap (chunk s ps) (flat_rowed t r m.0 m.1)
   flat_rowed t (align a r) n f = let m = mapped suc (flat r) n f in ap (align a) (flat_rowed t r m.0 m.1)

@@ -81,7 +81,7 @@ tail_bare stop h = tt
 tail_bare (patch a s o stop) h = tt
 tail_bare _ h = absurd h
 
-framed_bare : (e : Encoding) (t : Ty) (b : Block) → IsFramed e t b → IsBare b
+pub framed_bare : (e : Encoding) (t : Ty) (b : Block) → IsFramed e t b → IsBare b
 framed_bare e t b f =
     subst IsBare (sym f.whole) (append_bare f.lead (append f.body f.tail) (lead_bare f.lead f.size f.leads)
     (append_bare f.body f.tail (go_bare e t f.below [] f.body f.goes) (tail_bare f.tail f.ends)))

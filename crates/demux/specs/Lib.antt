@@ -1,2 +1,5 @@
+pub mod Edges
 pub mod Names
+pub mod Spelled
+pub mod Trees
 pub mod Places

@@ -1,26 +1,24 @@
 //! Names to be found.
 
-ghost use Rattle.std.specs.Prelude.{◌≡◌, ◌≤◌, ◌+◌, ◌/◌, ◌<◌, ◌^◌, IfOk, OnOk, List, ℕ, Some, length, if◌then◌else◌};
-ghost use Rattle.std.specs.BTreeMap.{IsEmpty};
-ghost use Rattle.demux.specs.Places.{FindsPlaces, place_in};
+ghost use Rattle.std.specs.Prelude.{◌≡◌, ◌≤◌, ◌+◌, ◌/◌, ◌<◌, ◌^◌, IfOk, List, ℕ, None, OnOk, length};
+ghost use Rattle.demux.specs.Places.{FindsPlaces};
+ghost use Rattle.demux.specs.Spelled.{AreOctets};
+ghost use Rattle.demux.specs.Trees.{IsTree, place_in};
 ghost use Rattle.kit_base.specs.Causes.{raised};
 ghost use Rattle.std.specs.List.{position_from};
 ghost use Rattle.std.specs.Str.{bytes_eq};
 
+use crate::tree::{Node, empty_tree, put_place, sought};
 use crate::word_name::WordName;
 use kit_base::{Name, NoMemory, Words};
 use std::alloc::Global;
-use std::collections::BTreeMap;
 use std::marker::Model;
-
-/// For each name the place of the first one that is equal to it, counted from 0.
-type Places = BTreeMap<Vec<u8>, u32>;
 
 /// Names, each at its place from 0, among which the first that is equal to a given one is found.
 #[derive(Drop)]
 pub struct Demux {
     names: Words,
-    places: Places,
+    nodes: Vec<Node>,
 }
 
 impl Model for Demux {
@@ -31,7 +29,7 @@ impl Model for Demux {
 
     ghost view = { λ d. d.names };
 
-    ghost invariant = { λ d. (length d.names < 2 ^ 32) × FindsPlaces d.names d.places };
+    ghost invariant = { λ d. (length d.names < 2 ^ 32) × FindsPlaces d.names d.nodes.items };
 }
 
 /// Copies of names.
@@ -45,26 +43,41 @@ fn copied(alloc: Global, names: &Words) -> Result<Words, NoMemory>
     Ok(copies)
 }
 
-/// Keeps a place for a name, instead of the one that it had.
-fn put_place(alloc: Global, places: &mut Places, name: &[u8], place: u32) -> Result<(), NoMemory>
-    ensures { OnOk result ((s : List ℕ) → place_in places.new s
-        ≡ (if bytes_eq name.now s then Some place else place_in places.old s)) }
+/// The names in the order of their lengths and words.
+fn in_order<'a>(alloc: Global, names: &'a [Name]) -> Result<Vec<(usize, &'a [u8])>, NoMemory> {
+    let mut sorted = Vec::new(alloc);
+    for name in names {
+        sorted.push((name.len(), name.as_slice()))?;
+    }
+    sorted.sort_unstable();
+    Ok(sorted)
+}
+
+/// A tree that has the nodes of names, and finds none of them yet. Each list of words grows at its end alone.
+fn nodes_of(alloc: Global, names: &[Name]) -> Result<Vec<Node>, NoMemory>
+    ensures tree { IfOk result (λ t. IsTree t.items) }
+    ensures empty { IfOk result (λ t. (s : List ℕ) → AreOctets s → place_in t.items s ≡ None) }
 {
-    places.insert(Vec::from_slice(alloc, name)?, place)?;
-    Ok(())
+    let mut nodes = empty_tree(alloc)?;
+    let order = in_order(alloc, names)?;
+    for item in order.as_slice() {
+        put_place(alloc, &mut nodes, item.1, None)?;
+    }
+    Ok(nodes)
 }
 
 /// Keeps the places of the names from the last to the first, so that of equal names the place of
 /// the first stays.
-fn put_places(alloc: Global, places: &mut Places, names: &[Name]) -> Result<(), NoMemory>
+fn put_places(alloc: Global, nodes: &mut Vec<Node>, names: &[Name]) -> Result<(), NoMemory>
     requires few { length names.now < 2 ^ 32 }
-    requires empty { IsEmpty places.old }
-    ensures { OnOk result (FindsPlaces names.now places.new) }
+    requires tree { IsTree nodes.old.items }
+    requires empty { (s : List ℕ) → AreOctets s → place_in nodes.old.items s ≡ None }
+    ensures { OnOk result (FindsPlaces names.now nodes.new.items) }
 {
     let mut place = names.len();
     while place > 0 {
         place -= 1;
-        put_place(alloc, places, names[place].as_slice(), place as u32)?;
+        put_place(alloc, nodes, names[place].as_slice(), Some(place as u32))?;
     }
     Ok(())
 }
@@ -75,11 +88,11 @@ impl Demux {
         requires { length names.now < 2 ^ 32 }
         ensures { IfOk result (λ d. d ≡ names.now) }
     {
-        let mut places = BTreeMap::new(alloc);
-        put_places(alloc, &mut places, names.as_slice())?;
+        let mut nodes = nodes_of(alloc, names.as_slice())?;
+        put_places(alloc, &mut nodes, names.as_slice())?;
         Ok(Demux {
             names: copied(alloc, names)?,
-            places,
+            nodes,
         })
     }
 
@@ -90,9 +103,7 @@ impl Demux {
         ensures name { name.new.name ≡ name.old.name }
         ensures reads { name.new.reads ≤ raised name.old.reads ((length name.old.name + 3) / 4 + 1) }
     {
-        match self.places.get(name.octets()) {
-            Some(place) => Some(*place),
-            None => None,
-        }
+        name.has_octets();
+        sought(self.nodes.as_slice(), name)
     }
 }

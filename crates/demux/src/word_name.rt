@@ -3,6 +3,7 @@
 ghost use Rattle.std.specs.Prelude.{◌≡◌, ◌≤◌, ◌*◌, length};
 ghost use Rattle.kit_base.specs.Causes.{raised};
 ghost use Rattle.demux.specs.Names.{first_word, word_at};
+ghost use Rattle.demux.specs.Spelled.{AreOctets};
 
 use std::marker::Model;
 
@@ -16,10 +17,13 @@ pub struct WordName<'a> {
 
 impl<'a> Model for WordName<'a> {
     ghost use Rattle.demux.specs.Names.{Read};
+    ghost use Rattle.demux.specs.Spelled.{AreOctets};
 
     ghost Value = { Read };
 
     ghost view = { λ n. record { name = n.name.now; reads = n.reads } };
+
+    ghost invariant = { λ n. AreOctets n.name.now };
 }
 
 impl<'a> WordName<'a> {
@@ -38,6 +42,7 @@ impl<'a> WordName<'a> {
     }
 
     /// The word at a place, counted from 0: four octets, of which those past the end are 0.
+    #[inline(always)]
     pub fn word(&mut self, i: usize) -> u32
         requires { 4 * i ≤ length self.old.name }
         ensures word { result ≡ word_at self.old.name i }
@@ -45,7 +50,17 @@ impl<'a> WordName<'a> {
         ensures reads { self.new.reads ≡ raised self.old.reads 1 }
     {
         self.reads = self.reads.saturating_add(1);
-        word_of(&self.name[4 * i..])
+        match &self.name[4 * i..] {
+            [a, b, c, d, ..] => u32::from_be_bytes([*a, *b, *c, *d]),
+            rest => word_of(rest),
+        }
+    }
+
+    /// That a name is made of octets.
+    pub(crate) fn has_octets(&self)
+        ensures { AreOctets self.now.name }
+    {
+        let _ = &self.name;
     }
 
     /// How many words were read. The count stops at 18,446,744,073,709,551,615.
@@ -54,13 +69,14 @@ impl<'a> WordName<'a> {
     {
         self.reads
     }
+}
 
-    /// The octets of the name.
-    pub(crate) fn octets(&self) -> &[u8]
-        ensures { result.now ≡ self.now.name }
-    {
-        self.name
-    }
+/// The word at a place of a name, counted from 0: four octets, of which those past the end are 0.
+pub(crate) fn word_in(name: &[u8], i: usize) -> u32
+    requires { 4 * i ≤ length name.now }
+    ensures { result ≡ word_at name.now i }
+{
+    word_of(&name[4 * i..])
 }
 
 /// The word of the first four octets, of which those that are not there are 0.

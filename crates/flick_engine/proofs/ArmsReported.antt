@@ -11,14 +11,16 @@ use Rattle.mint.specs.Types.{Ty}
 use Rattle.aoi.specs.Plain.{PlainInterface, PlainOperation}
 use Rattle.pres.specs.Bindings.{Binding, IsBinding}
 use Rattle.pres.specs.Offers.{type_faces}
+use Rattle.head_arms.specs.Raised.{exceptions}
 use Rattle.wire_def.specs.declared.reply.ReplyHead.{ReplyHead}
 use Rattle.back_xdr.specs.Reply as xdr_reply
 use Rattle.back_xdr.specs.Reply.{AcceptedSpells, DeniedSpells, FateSpells}
 use Rattle.back_xdr.specs.Reported.{status_of as xdr_status}
+use Rattle.back_mach.specs.Reply.{AfterSpells}
 use Rattle.back_mach.specs.Reported.{status_of as mach_status}
 use Rattle.giop_head.specs.Reply as giop_reply
 use Rattle.back_cdr.specs.Targets.{IsCdr, target_of}
-use Rattle.stub_codes.proofs.ArmIds.{many_ids}
+use Rattle.stub_codes.proofs.ArmIds.{many_ids, many_raised}
 use Rattle.flick_engine.specs.declared.replies.Fate.TheVariants as fates
 use Rattle.flick_engine.specs.Backs.{RepliesInOrder, RepliesOver, BeginsReply}
 use Rattle.flick_engine.specs.Fates.{Heard, raised_at, fate_of, giop_fate}
@@ -30,33 +32,37 @@ use Rattle.stub_codes.proofs.ReplyTypes.{are_the_replies}
 
 -- ---- what a status tells
 
--- a status that has no number of an exception
-abbrev IsUnnumbered : Status → Type 0
-IsUnnumbered (status.Raised k) = ⊥
-IsUnnumbered _ = Unit {0}
+-- the state of an accepted call tells an arm up to the number of exceptions
+state_few : (arms n p : ℕ) (o : List ℕ) (s : Status) → AcceptedSpells arms p o s → fate_of [] s ≡ fates.Arm n → n ≤ arms
+state_few arms n p o status.Answer h e =
+    let none : 0 ≡ n = cc in
+    omega (arith, none)
+state_few arms n p o (status.Raised k) h e =
+    let same : k ≡ n = cc in
+    omega (arith, same, h.1.1)
+state_few arms n p o _ h e = absurd cc
 
--- without exceptions such a status tells the answer alone
-arm_zero : (s : Status) (k : ℕ) → IsUnnumbered s → fate_of [] s ≡ fates.Arm k → k ≡ 0
-arm_zero status.Answer k one e = cc
-arm_zero (status.Raised n) k one e = absurd one
-arm_zero _ k one e = absurd cc
+-- a denial tells none
+denial_few : (arms n p : ℕ) (o : List ℕ) (s : Status) → DeniedSpells p o s → fate_of [] s ≡ fates.Arm n → n ≤ arms
+denial_few arms n p o status.Answer h e = absurd h
+denial_few arms n p o (status.Raised k) h e = absurd h
+denial_few arms n p o _ h e = absurd cc
 
-state_unnumbered : (p : ℕ) (o : List ℕ) (s : Status) → AcceptedSpells p o s → IsUnnumbered s
-state_unnumbered p o (status.Raised n) h = h
-state_unnumbered p o _ h = tt
+onc_few : (arms n p : ℕ) (o : List ℕ) (f : xdr_reply.Fate) → FateSpells arms p o f → fate_of [] (xdr_status f) ≡ fates.Arm n → n ≤ arms
+onc_few arms n p o (xdr_reply.accepted verf s) (a, b, is, took, (c, d, is', auth, state)) e =
+    state_few arms n (p + length a + length c) d s state e
+onc_few arms n p o (xdr_reply.denied s) (a, b, is, took, denial) e = denial_few arms n (p + length a) b s denial e
 
-denial_unnumbered : (p : ℕ) (o : List ℕ) (s : Status) → DeniedSpells p o s → IsUnnumbered s
-denial_unnumbered p o (status.Raised n) h = h
-denial_unnumbered p o _ h = tt
-
-xdr_unnumbered : (p : ℕ) (o : List ℕ) (f : xdr_reply.Fate) → FateSpells p o f → IsUnnumbered (xdr_status f)
-xdr_unnumbered p o (xdr_reply.accepted verf s) (a, b, is, took, (c, d, is', auth, state)) =
-    state_unnumbered (p + length a + length c) d s state
-xdr_unnumbered p o (xdr_reply.denied s) (a, b, is, took, denial) = denial_unnumbered (p + length a) b s denial
-
-mach_unnumbered : (m : ℕ) → IsUnnumbered (mach_status m)
-mach_unnumbered zero = tt
-mach_unnumbered (suc m) = tt
+-- what follows a return code tells an arm up to the number of exceptions
+mach_few : (arms n m k p : ℕ) (o : List ℕ) → AfterSpells arms m p o k → fate_of [] (mach_status m k) ≡ fates.Arm n → n ≤ arms
+mach_few arms n zero zero p o h e =
+    let none : 0 ≡ n = cc in
+    omega (arith, none)
+mach_few zero n zero (suc k) p o h e = absurd (omega (arith, h.1))
+mach_few (suc arms) n zero (suc k) p o h e =
+    let same : suc k ≡ n = cc in
+    omega (arith, same, h.2)
+mach_few arms n (suc m) k p o h e = absurd cc
 
 found_at : (id : List ℕ) (o : Option ℕ) (k : ℕ) → raised_at id o ≡ fates.Arm k → o ≡ Some k
 found_at id None k e = absurd cc
@@ -83,18 +89,20 @@ module _ (b : Binding) (op : ℕ) (i : PlainInterface) (p : PlainOperation) (o :
         let most = arm_few (target_of b op).ids r.fate n (ap (λ (x : Heard). x.fate) reported ∙ arm) in
         omega (arith, most, many_ids k cdr b op i p is)
 
-    few_over : (k : Back) → slice_get (operations_in k b.unit.interfaces) op ≡ Some (i, p) → RepliesOver k b op o t → n ≤ length p.raises
-    few_over back.Xdr is (r, (reply, used, (within, (x, y, split, xid, (z, w, split', type, fate))), same), reported) =
-        let state = xdr_unnumbered (0 + length x + length z) w reply.fate fate in
-        let plain = subst IsUnnumbered (ap (λ (h : ReplyHead). h.status) same) state in
-        let none = arm_zero r.status n plain (ap (λ (x : Heard). x.fate) reported ∙ arm) in
-        omega (arith, none)
-    few_over back.CdrBig is begins = giop_few back.CdrBig refl is begins
-    few_over back.CdrLittle is begins = giop_few back.CdrLittle refl is begins
-    few_over back.Mach is (r, (reply, used, starts, same), reported) =
-        let plain = subst IsUnnumbered (ap (λ (h : ReplyHead). h.status) same) (mach_unnumbered reply.code) in
-        let none = arm_zero r.status n plain (ap (λ (x : Heard). x.fate) reported ∙ arm) in
-        omega (arith, none)
+    few_over : (k : Back) → exceptions b op ≡ length p.raises → slice_get (operations_in k b.unit.interfaces) op ≡ Some (i, p)
+        → RepliesOver k b op o t → n ≤ length p.raises
+    few_over back.Xdr many is (r, (reply, used, (within, (x, y, split, xid, (z, w, split', type, fate))), same), reported) =
+        let told : fate_of [] (xdr_status reply.fate) ≡ fates.Arm n =
+        ap (λ (h : ReplyHead). fate_of [] h.status) same ∙ ap (λ (x : Heard). x.fate) reported ∙ arm in
+        let few = onc_few (exceptions b op) n (0 + length x + length z) w reply.fate fate told in
+        omega (arith, few, many)
+    few_over back.CdrBig many is begins = giop_few back.CdrBig refl is begins
+    few_over back.CdrLittle many is begins = giop_few back.CdrLittle refl is begins
+    few_over back.Mach many is (r, (reply, used, (within, (x, y, split, own, (z, w, split', code, after))), same), reported) =
+        let told : fate_of [] (mach_status reply.code reply.arm) ≡ fates.Arm n =
+        ap (λ (h : ReplyHead). fate_of [] h.status) same ∙ ap (λ (x : Heard). x.fate) reported ∙ arm in
+        let few = mach_few (exceptions b op) n reply.code reply.arm (0 + length x + length z) w after told in
+        omega (arith, few, many)
 
 pub reported_arm : (b : Binding) (op : ℕ) → IsBinding b → op < length b.ops → (o : List ℕ) (t : Heard) (k : ℕ) → BeginsReply b op o t
     → t.fate ≡ fates.Arm k → HasArm b op k
@@ -102,4 +110,5 @@ reported_arm b op stands h o t k begins arm =
     let (i, p, is, same) = are_the_replies b op stands h in
     subst
     (λ (s : Ty).
-    IsTrue (is_some (arm_type_in s k))) (sym same) (arm_there (type_faces b.unit) p k (few_over b op i p o t k arm b.back is begins))
+    IsTrue (is_some (arm_type_in s k))) (sym same) (arm_there (type_faces b.unit) p k
+    (few_over b op i p o t k arm b.back (many_raised b op i p is) is begins))

@@ -1,5 +1,5 @@
 -- What holds of the heads of replies over each back end.
-use Rattle.std.proofs.Common.{◌≡◌, ◌⊎◌, inl, inr, ℕ, ◌≤◌, List, length, Some, refl, sym, ap, ◌∙◌, subst, arith}
+use Rattle.std.proofs.Common.{◌≡◌, ◌⊎◌, inl, inr, ℕ, zero, suc, ◌≤◌, List, length, Some, refl, sym, ap, ◌∙◌, subst, arith}
 use Rattle.std.specs.Prelude.{◌↔◌, true, Result, Ok, Err, IfOk, IfErr}
 use Rattle.wire_def.specs.declared.encoding.Back.{Back}
 use Rattle.wire_def.specs.declared.encoding.Back.TheVariants as back
@@ -12,7 +12,9 @@ use Rattle.wire_def.specs.declared.reply.Status.{Status}
 use Rattle.wire_def.specs.declared.reply.Status.TheVariants as status
 use Rattle.wire_def.specs.Grammar.{AreOctets}
 use Rattle.pres.specs.Bindings.{Binding}
+use Rattle.head_arms.specs.Raised.{exceptions}
 use Rattle.back_xdr.specs.Heads as xdr
+use Rattle.back_xdr.specs.Leads as xdr_leads
 use Rattle.back_xdr.specs.Reply as xdr_reply
 use Rattle.back_xdr.specs.Reported as xdr_reported
 use Rattle.back_xdr.proofs.Lawful as xdr_lawful
@@ -27,7 +29,9 @@ use Rattle.giop_head.proofs.Sent.{begins}
 use Rattle.back_cdr.specs.Targets.{IsCdr, target_of}
 use Rattle.back_cdr.proofs.Growing.{long_reply}
 use Rattle.back_mach.specs.Heads as mach
+use Rattle.back_mach.specs.Leads as mach_leads
 use Rattle.back_mach.specs.Reply as mach_reply
+use Rattle.back_mach.specs.Routines.{routine_of}
 use Rattle.back_mach.specs.Reported as mach_reported
 use Rattle.back_mach.proofs.Lawful as mach_lawful
 use Rattle.flick_engine.specs.declared.replies.Fate.{Fate}
@@ -49,12 +53,15 @@ HasReply Begins Stops = ((t : Heard) × Begins t) ⊎ ((e : HeadErr) × Stops e)
 
 module _ (b : Binding) (op : ℕ) (o : List ℕ) where
   -- ONC
+  abbrev onc_way : xdr.Way
+  onc_way = xdr.reply (exceptions b op)
+
   xdr_viewed : xdr_reply.Reply → ℕ → Heard
   xdr_viewed h used = heard_over back.Xdr b op (xdr_reported.reply_reported h used)
 
   xdr_one : (t u : Heard) → RepliesOver back.Xdr b op o t → RepliesOver back.Xdr b op o u → t ≡ u
   xdr_one t u (r, (h, used, starts, reported), is) (s, (j, m, starts', reported'), is') =
-      let same = (xdr_lawful.heads_are_single xdr.reply o).one_head h j used m starts starts' in
+      let same = (xdr_lawful.heads_are_single onc_way o).one_head h j used m starts starts' in
       sym is ∙ ap (heard_over back.Xdr b op)
       (sym reported ∙ ap (λ (x : xdr_reply.Reply). xdr_reported.reply_reported x used) same.0 ∙ ap (xdr_reported.reply_reported j) same.1
       ∙ reported') ∙ is'
@@ -62,12 +69,12 @@ module _ (b : Binding) (op : ℕ) (o : List ℕ) where
   xdr_one_reply : IsOneReply o (RepliesOver back.Xdr b op o) (ReplyStopsOver back.Xdr b op o)
   xdr_one_reply = record {
     within = λ t (r, (h, used, starts, reported), is). rw (← is, ← reported) starts.0;
-    not_both = λ t e (r, (h, used, starts, reported), is) stops. (xdr_lawful.heads_are_single xdr.reply o).not_both h used e starts stops;
+    not_both = λ t e (r, (h, used, starts, reported), is) stops. (xdr_lawful.heads_are_single onc_way o).not_both h used e starts stops;
     one_head = xdr_one;
-    one_fault = (xdr_lawful.heads_are_single xdr.reply o).one_fault;
+    one_fault = (xdr_lawful.heads_are_single onc_way o).one_fault;
   }
 
-  xdr_found : ((h : xdr_reply.Reply) × (used : ℕ) × xdr.BeginsWith xdr.reply o h used) ⊎ ((e : HeadErr) × xdr.StopsWith xdr.reply o e)
+  xdr_found : ((h : xdr_reply.Reply) × (used : ℕ) × xdr.BeginsWith onc_way o h used) ⊎ ((e : HeadErr) × xdr.StopsWith onc_way o e)
       → HasReply (RepliesOver back.Xdr b op o) (ReplyStopsOver back.Xdr b op o)
   xdr_found (inl (h, used, starts)) = inl (_, (xdr_reported.reply_reported h used, (h, used, starts, refl), refl))
   xdr_found (inr (e, stops)) = inr (e, stops)
@@ -93,7 +100,7 @@ module _ (b : Binding) (op : ℕ) (o : List ℕ) where
 
   -- Mach
   abbrev way : mach.Way
-  way = mach.reply (reply_id b op)
+  way = mach.reply (reply_id b op) (exceptions b op)
 
   mach_one : (t u : Heard) → RepliesOver back.Mach b op o t → RepliesOver back.Mach b op o u → t ≡ u
   mach_one t u (r, (h, used, starts, reported), is) (s, (j, m, starts', reported'), is') =
@@ -127,7 +134,7 @@ module _ (b : Binding) (op : ℕ) (o : List ℕ) where
   one_reply = one_reply_over b.back
 
   has_reply_over : (k : Back) → AreOctets o → HasReply (RepliesOver k b op o) (ReplyStopsOver k b op o)
-  has_reply_over back.Xdr oct = xdr_found (xdr_lawful.heads_are_decided xdr.reply o oct).either
+  has_reply_over back.Xdr oct = xdr_found (xdr_lawful.heads_are_decided onc_way o oct).either
   has_reply_over back.CdrBig oct = giop_found (giop_lawful.heads_are_decided Replies o oct).either
   has_reply_over back.CdrLittle oct = giop_found (giop_lawful.heads_are_decided Replies o oct).either
   has_reply_over back.Mach oct = mach_found (mach_lawful.heads_are_decided way o oct).either
@@ -187,15 +194,19 @@ module _ (b : Binding) (op : ℕ) (o : List ℕ) where
   stops_over : (k : Back) (e : HeadErr) → b.back ≡ k → ReplyStopsOver k b op o e → ReplyStops b op o e
   stops_over k e is h = subst (λ (m : Back). ReplyStopsOver m b op o e) (sym is) h
 
-  pub xdr_read : (x : Result ReplyHead HeadErr) → b.back ≡ back.Xdr → ((r : ReplyHead) → (x ≡ Ok r) ↔ xdr_reported.BeginsReply o r)
+  pub xdr_read : (x : Result ReplyHead HeadErr) (arms : ℕ) → b.back ≡ back.Xdr → arms ≡ exceptions b op
+      → ((r : ReplyHead) → (x ≡ Ok r) ↔ xdr_reported.BeginsReply arms o r)
       → IfOk x (λ r. BeginsReply b op o (heard b op r))
-  xdr_read (Ok r) is h = over back.Xdr r is (r, (h r).0 refl, refl)
-  xdr_read (Err e) is h = tt
+  xdr_read (Ok r) arms is many h =
+      over back.Xdr r is (r, subst (λ (n : ℕ). xdr_reported.BeginsReply n o r) many ((h r).0 refl), refl)
+  xdr_read (Err e) arms is many h = tt
 
-  pub xdr_faults : (x : Result ReplyHead HeadErr) → b.back ≡ back.Xdr → ((e : HeadErr) → (x ≡ Err e) ↔ xdr.StopsWith xdr.reply o e)
+  pub xdr_faults : (x : Result ReplyHead HeadErr) (arms : ℕ) → b.back ≡ back.Xdr → arms ≡ exceptions b op
+      → ((e : HeadErr) → (x ≡ Err e) ↔ xdr.StopsWith (xdr.reply arms) o e)
       → IfErr x (λ e. ReplyStops b op o e)
-  xdr_faults (Ok r) is h = tt
-  xdr_faults (Err e) is h = stops_over back.Xdr e is ((h e).0 refl)
+  xdr_faults (Ok r) arms is many h = tt
+  xdr_faults (Err e) arms is many h =
+      stops_over back.Xdr e is (subst (λ (n : ℕ). xdr.StopsWith (xdr.reply n) o e) many ((h e).0 refl))
 
   giop_reported_as : (k : Back) → IsCdr k → (r : ReplyHead) → giop_reported.BeginsReply o (giop_reported.reply_seen r)
       → RepliesOver k b op o (heard_over k b op r)
@@ -221,26 +232,43 @@ module _ (b : Binding) (op : ℕ) (o : List ℕ) where
   giop_faults (Ok r) cdr h = tt
   giop_faults (Err e) cdr h = giop_stop b.back cdr e ((h e).0 refl)
 
-  pub mach_read : (x : Result ReplyHead HeadErr) (id : ℕ) → b.back ≡ back.Mach → id ≡ reply_id b op
-      → ((r : ReplyHead) → (x ≡ Ok r) ↔ mach_reported.BeginsReply id o r)
+  pub mach_read : (x : Result ReplyHead HeadErr) (id arms : ℕ) → b.back ≡ back.Mach → id ≡ reply_id b op → arms ≡ exceptions b op
+      → ((r : ReplyHead) → (x ≡ Ok r) ↔ mach_reported.BeginsReply id arms o r)
       → IfOk x (λ r. BeginsReply b op o (heard b op r))
-  mach_read (Ok r) id is own h = over back.Mach r is (r, subst (λ (n : ℕ). mach_reported.BeginsReply n o r) own ((h r).0 refl), refl)
-  mach_read (Err e) id is own h = tt
+  mach_read (Ok r) id arms is own many h =
+      over back.Mach r is (
+        r,
+        subst (λ (n : ℕ). mach_reported.BeginsReply (reply_id b op) n o r) many
+            (subst (λ (n : ℕ). mach_reported.BeginsReply n arms o r) own ((h r).0 refl)),
+        refl,
+      )
+  mach_read (Err e) id arms is own many h = tt
 
-  pub mach_faults : (x : Result ReplyHead HeadErr) (id : ℕ) → b.back ≡ back.Mach → id ≡ reply_id b op
-      → ((e : HeadErr) → (x ≡ Err e) ↔ mach.StopsWith (mach.reply id) o e)
+  pub mach_faults : (x : Result ReplyHead HeadErr) (id arms : ℕ) → b.back ≡ back.Mach → id ≡ reply_id b op → arms ≡ exceptions b op
+      → ((e : HeadErr) → (x ≡ Err e) ↔ mach.StopsWith (mach.reply id arms) o e)
       → IfErr x (λ e. ReplyStops b op o e)
-  mach_faults (Ok r) id is own h = tt
-  mach_faults (Err e) id is own h = stops_over back.Mach e is (subst (λ (n : ℕ). mach.StopsWith (mach.reply n) o e) own ((h e).0 refl))
+  mach_faults (Ok r) id arms is own many h = tt
+  mach_faults (Err e) id arms is own many h =
+      stops_over back.Mach e is
+      (subst (λ (n : ℕ). mach.StopsWith (mach.reply (reply_id b op) n) o e) many
+      (subst (λ (n : ℕ). mach.StopsWith (mach.reply n arms) o e) own ((h e).0 refl)))
 
 -- ---- the heads that are sent
 
+onc_long : (arms arm id : ℕ) → 12 ≤ length (xdr_leads.reply_lead arms arm id)
+onc_long zero arm id = omega arith
+onc_long (suc n) arm id = omega arith
+
+mach_long : (b : Binding) (op arms arm : ℕ) (head : Head) → 12 ≤ length (mach_leads.reply_lead (routine_of b op) arms arm head)
+mach_long b op zero arm head = omega arith
+mach_long b op (suc n) arm head = omega arith
+
 -- the length of a message lies within the head of a reply
 long_over : (k : Back) (b : Binding) (op arm : ℕ) (head : Head) → 12 ≤ length (reply_lead_over k b op arm head)
-long_over back.Xdr b op arm head = omega arith
+long_over back.Xdr b op arm head = onc_long (exceptions b op) arm head.id
 long_over back.CdrBig b op arm head = long_reply Big (target_of b op) arm head.id
 long_over back.CdrLittle b op arm head = long_reply Little (target_of b op) arm head.id
-long_over back.Mach b op arm head = omega arith
+long_over back.Mach b op arm head = mach_long b op (exceptions b op) arm head
 
 pub long_reply_lead : (b : Binding) (op arm : ℕ) (head : Head) → 12 ≤ length (reply_lead_over b.back b op arm head)
 long_reply_lead b op arm head = long_over b.back b op arm head

@@ -1,21 +1,16 @@
 -- The heads of replies that are sent are received as what they say.
-use Rattle.std.proofs.Common.{◌≡◌, ℕ, zero, suc, ◌-◌, ◌<◌, ◌≤◌, ◌^◌, List, [], ◌++◌, length, take, drop, refl, sym, ap, ◌∙◌, subst, arith, length-append}
-use Rattle.std.proofs.lemmas.List.{take_at, drop_at}
+use Rattle.std.proofs.Common.{◌≡◌, ℕ, zero, suc, ◌-◌, ◌<◌, ◌≤◌, ◌^◌, List, ◌++◌, length, drop, refl, sym, ap, ◌∙◌, subst, arith, length-append}
 use Rattle.kit_base.specs.Limits.{longest_message}
 use Rattle.wire_def.specs.declared.encoding.Back.{Back}
 use Rattle.wire_def.specs.declared.encoding.Back.TheVariants as back
 use Rattle.wire_def.specs.declared.head.Head.{Head}
 use Rattle.wire_def.specs.declared.head.Order.{Order}
 use Rattle.wire_def.specs.declared.head.Order.TheVariants.{Big, Little}
-use Rattle.wire_def.specs.declared.reply.Status.TheVariants.{Answer}
 use Rattle.wire_def.specs.Grammar.{Parts}
 use Rattle.pres.specs.Bindings.{Binding}
-use Rattle.back_xdr.specs.Leads.{answer_lead}
-use Rattle.back_xdr.specs.Reply as onc
-use Rattle.back_xdr.specs.Reported as onc_reported
-use Rattle.back_xdr.specs.Auth.{AuthSpells}
-use Rattle.head_kit.specs.Words.{WordSpells, IsWord}
-use Rattle.back_xdr.specs.Words.{word}
+use Rattle.head_arms.specs.Raised.{exceptions}
+use Rattle.back_xdr.specs.Leads as onc_leads
+use Rattle.back_xdr.proofs.Sent as onc_sent
 use Rattle.giop_head.specs.declared.header.Way.TheVariants.{Replies}
 use Rattle.giop_head.specs.Contexts.{ContextsSpell}
 use Rattle.giop_head.specs.Heads as giop
@@ -27,12 +22,11 @@ use Rattle.giop_head.proofs.Sending.{fated, reply_puts}
 use Rattle.giop_head.proofs.Sent.{within, begins, rest}
 use Rattle.back_cdr.specs.Leads.{reply_lead as giop_lead}
 use Rattle.back_cdr.specs.Targets.{Target, target_of}
-use Rattle.back_mach.specs.Laws as mach_laws
-use Rattle.back_mach.specs.Laws.{HasPorts}
 use Rattle.back_mach.specs.Leads as mach_leads
 use Rattle.back_mach.specs.Routines.{routine_of}
+use Rattle.back_mach.specs.declared.routines.Routine.{Routine}
 use Rattle.back_mach.proofs.Sent as mach_sent
-use Rattle.flick_engine.specs.Backs.{encoding, sized, reply_lead_over, RepliesInOrder, RepliesOver, answer_of, giop_fate_of, giop_answer, TellsInOrder, TellsOver, Tells}
+use Rattle.flick_engine.specs.Backs.{encoding, sized, reply_lead_over, RepliesInOrder, RepliesOver, onc_reply_of, mach_reply_of, giop_fate_of, giop_answer, TellsInOrder, TellsOver, Tells}
 use Rattle.flick_engine.specs.Fates.{Heard}
 
 -- a head that is sent is received as what it says, and its body follows it
@@ -42,33 +36,6 @@ pub record IsReplyReceived (k : Back) (b : Binding) (op arm : ℕ) (head : Head)
   pub follows : (rest : List ℕ) → drop t.used (sized k (reply_lead_over k b op arm head ++ rest)) ≡ rest
   pub used : t.used ≡ length (reply_lead_over k b op arm head)
   pub encoding : t.encoding ≡ encoding k
-
--- ---- ONC
-
--- a reply that is accepted, with an empty verifier, and succeeded
-abbrev bare_answer : ℕ → onc.Reply
-bare_answer id = record { xid = id; fate = onc.accepted (record { flavour = 0; body = [] }) Answer }
-
-pub onc_answers : (id : ℕ) (o : List ℕ) → IsWord id → onc_reported.BeginsReply (answer_lead id ++ o) (answer_of id)
-unfolding WordSpells AuthSpells
-onc_answers id o fits =
-    let first : take 24 (answer_lead id ++ o) ≡ answer_lead id = take_at (answer_lead id) o 24 refl in
-    let fate : onc.FateSpells 8 (word 0 ++ (word 0 ++ (word 0 ++ word 0))) (onc.accepted (record { flavour = 0; body = [] }) Answer) =
-    (word 0, word 0 ++ (word 0 ++ word 0), refl, refl, (word 0 ++ word 0, word 0, refl, (refl, (omega arith, omega arith)), refl)) in (
-      bare_answer id,
-      24,
-      (
-        omega (arith, length-append (answer_lead id) o),
-        rw first (
-          word id,
-          word 1 ++ (word 0 ++ (word 0 ++ (word 0 ++ word 0))),
-          refl,
-          (refl, fits),
-          (word 1, word 0 ++ (word 0 ++ (word 0 ++ word 0)), refl, refl, fate),
-        ),
-      ),
-      refl,
-    )
 
 -- ---- GIOP
 
@@ -133,21 +100,41 @@ module _ (r : Order) (b : Binding) (op arm : ℕ) (head : Head) (t : Heard) (tel
   pub in_order_laid : t.encoding ≡ laid r
   in_order_laid = ap (λ (x : Heard). x.encoding) (sym tells.2)
 
+-- ---- ONC
+
+onc_follows : (arms arm id : ℕ) (body : List ℕ) → drop (onc_leads.reply_lead_length arms) (onc_leads.reply_lead arms arm id ++ body) ≡ body
+onc_follows zero arm id body = refl
+onc_follows (suc n) arm id body = refl
+
+onc_long : (arms arm id : ℕ) → onc_leads.reply_lead_length arms ≡ length (onc_leads.reply_lead arms arm id)
+onc_long zero arm id = refl
+onc_long (suc n) arm id = refl
+
 -- ---- Mach
 
-mach_follows : (id remote : ℕ) (body : List ℕ) → drop 32 (mach_leads.with_size (mach_leads.reply_octets id remote 0 ++ body)) ≡ body
-mach_follows id remote body = refl
+mach_follows : (r : Routine) (arms arm : ℕ) (head : Head) (body : List ℕ)
+    → drop (mach_leads.reply_lead_length arms) (mach_leads.with_size (mach_leads.reply_lead r arms arm head ++ body)) ≡ body
+mach_follows r zero arm head body = refl
+mach_follows r (suc n) arm head body = refl
+
+mach_long : (r : Routine) (arms arm : ℕ) (head : Head)
+    → mach_leads.reply_lead_length arms ≡ length (mach_leads.reply_lead r arms arm head)
+mach_long r zero arm head = refl
+mach_long r (suc n) arm head = refl
 
 -- ---- each back end
 
 received_over : (k : Back) (b : Binding) (op arm : ℕ) (head : Head) (t : Heard) → TellsOver k b op arm head t
     → IsReplyReceived k b op arm head t
-received_over back.Xdr b op arm head t (fits, is) = record {
-  begins = λ rest few. (answer_of head.id, onc_answers head.id rest fits, is);
-  follows = λ rest. ap (λ (x : Heard). drop x.used (answer_lead head.id ++ rest)) (sym is) ∙ drop_at (answer_lead head.id) rest 24 refl;
-  used = ap (λ (x : Heard). x.used) (sym is);
-  encoding = ap (λ (x : Heard). x.encoding) (sym is);
-}
+received_over back.Xdr b op arm head t (fits, (word_fits, few), is) =
+    let lead : List ℕ = onc_leads.reply_lead (exceptions b op) arm head.id in
+    record {
+      begins = λ rest short. (onc_reply_of b op arm head, onc_sent.replies_read (exceptions b op) arm head.id rest fits word_fits few, is);
+      follows =
+          λ rest. ap (λ (x : Heard). drop x.used (lead ++ rest)) (sym is) ∙ onc_follows (exceptions b op) arm head.id rest;
+      used = ap (λ (x : Heard). x.used) (sym is) ∙ onc_long (exceptions b op) arm head.id;
+      encoding = ap (λ (x : Heard). x.encoding) (sym is);
+    }
 received_over back.CdrBig b op arm head t tells =
     record {
       begins = in_order_begins Big b op arm head t tells;
@@ -164,18 +151,19 @@ received_over back.CdrLittle b op arm head t tells =
           in_order_used Little b op arm head t tells;
       encoding = in_order_laid Little b op arm head t tells;
     }
-received_over back.Mach b op arm head t (ports, is) = record {
-  begins =
-      λ rest few.
-      (mach_laws.reply_of head.remote Answer, mach_sent.answers_read (routine_of b op) head rest ports (omega (arith, few)), is);
-  follows =
-      λ rest.
-      ap (λ (x : Heard).
-      drop x.used (sized back.Mach (reply_lead_over back.Mach b op arm head ++ rest))) (sym is)
-      ∙ mach_follows (routine_of b op).id head.remote rest;
-  used = ap (λ (x : Heard). x.used) (sym is);
-  encoding = ap (λ (x : Heard). x.encoding) (sym is);
-}
+received_over back.Mach b op arm head t (ports, (word_fits, few), is) =
+    let r : Routine = routine_of b op in
+    let arms : ℕ = exceptions b op in
+    let lead : List ℕ = mach_leads.reply_lead r arms arm head in
+    record {
+      begins =
+          λ rest short.
+          (mach_reply_of b op arm head, mach_sent.replies_read r arms arm head rest ports word_fits few (omega (arith, short)), is);
+      follows =
+          λ rest. ap (λ (x : Heard). drop x.used (mach_leads.with_size (lead ++ rest))) (sym is) ∙ mach_follows r arms arm head rest;
+      used = ap (λ (x : Heard). x.used) (sym is) ∙ mach_long r arms arm head;
+      encoding = ap (λ (x : Heard). x.encoding) (sym is);
+    }
 
 pub reply_received : (b : Binding) (op arm : ℕ) (head : Head) (t : Heard) → Tells b op arm head t → IsReplyReceived b.back b op arm head t
 reply_received b op arm head t tells = received_over b.back b op arm head t tells

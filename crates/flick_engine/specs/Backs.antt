@@ -1,5 +1,5 @@
 -- What differs from one back end to another: its name, how bodies are laid out, and the heads of calls and of replies.
-use Rattle.std.specs.Prelude.{◌≡◌, ℕ, zero, suc, true, List, [], length, slice_index_or, Option, Some, None, if◌then◌else◌, codes}
+use Rattle.std.specs.Prelude.{◌≡◌, ◌≤◌, ℕ, zero, suc, true, List, [], length, slice_index_or, Option, Some, None, if◌then◌else◌, codes}
 use Rattle.std.specs.Str.{bytes_eq}
 use Rattle.wire_def.specs.declared.encoding.Back.{Back}
 use Rattle.wire_def.specs.declared.encoding.Back.TheVariants as back
@@ -9,14 +9,15 @@ use Rattle.wire_def.specs.declared.head.Head.{Head}
 use Rattle.wire_def.specs.declared.head.Order.{Order}
 use Rattle.wire_def.specs.declared.head.Order.TheVariants.{Big, Little}
 use Rattle.wire_def.specs.declared.reply.ReplyHead.{ReplyHead}
-use Rattle.wire_def.specs.declared.reply.Status.TheVariants.{Answer}
+use Rattle.head_arms.specs.Arms.{arm_status}
 use Rattle.head_kit.specs.declared.called.Called.{Called}
 use Rattle.aoi.specs.Plain.{PlainInterface, PlainOperation}
 use Rattle.pres.specs.Bindings.{Binding}
+use Rattle.head_arms.specs.Raised.{exceptions}
 use Rattle.back_xdr.specs.declared.call.OncCall.{OncCall}
 use Rattle.back_xdr.specs.Heads as xdr
+use Rattle.back_xdr.specs.Laws as xdr_laws
 use Rattle.back_xdr.specs.Laws.{AreWords, call_of, called_by}
-use Rattle.back_xdr.specs.Leads as xdr_leads
 use Rattle.back_xdr.specs.Procedures.{procedure_of}
 use Rattle.back_xdr.specs.Seeking as xdr_seeking
 use Rattle.back_xdr.specs.Reported as xdr_reported
@@ -140,10 +141,12 @@ RepliesInOrder b op o t = (r : giop_reply.Reply) × (used : ℕ) × giop.BeginsW
 
 -- a message begins with the head of a reply to an operation over a back end that says this
 abbrev pub RepliesOver : Back → Binding → ℕ → List ℕ → Heard → Type 0
-RepliesOver back.Xdr b op o t = (r : ReplyHead) × xdr_reported.BeginsReply o r × (heard_over back.Xdr b op r ≡ t)
+RepliesOver back.Xdr b op o t =
+    (r : ReplyHead) × xdr_reported.BeginsReply (exceptions b op) o r × (heard_over back.Xdr b op r ≡ t)
 RepliesOver back.CdrBig b op o t = RepliesInOrder b op o t
 RepliesOver back.CdrLittle b op o t = RepliesInOrder b op o t
-RepliesOver back.Mach b op o t = (r : ReplyHead) × mach_reported.BeginsReply (reply_id b op) o r × (heard_over back.Mach b op r ≡ t)
+RepliesOver back.Mach b op o t =
+    (r : ReplyHead) × mach_reported.BeginsReply (reply_id b op) (exceptions b op) o r × (heard_over back.Mach b op r ≡ t)
 
 -- a message begins with the head of a reply to an operation that says this
 abbrev pub BeginsReply : Binding → ℕ → List ℕ → Heard → Type 0
@@ -151,10 +154,10 @@ BeginsReply b op o t = RepliesOver b.back b op o t
 
 -- the first item of such a head that is cut off or wrong
 abbrev pub ReplyStopsOver : Back → Binding → ℕ → List ℕ → HeadErr → Type 0
-ReplyStopsOver back.Xdr b op o e = xdr.StopsWith xdr.reply o e
+ReplyStopsOver back.Xdr b op o e = xdr.StopsWith (xdr.reply (exceptions b op)) o e
 ReplyStopsOver back.CdrBig b op o e = giop.StopsWith Replies o e
 ReplyStopsOver back.CdrLittle b op o e = giop.StopsWith Replies o e
-ReplyStopsOver back.Mach b op o e = mach.StopsWith (mach.reply (reply_id b op)) o e
+ReplyStopsOver back.Mach b op o e = mach.StopsWith (mach.reply (reply_id b op) (exceptions b op)) o e
 
 -- the first item of the head of a reply to an operation that is cut off or wrong
 abbrev pub ReplyStops : Binding → ℕ → List ℕ → HeadErr → Type 0
@@ -162,9 +165,17 @@ ReplyStops b op o e = ReplyStopsOver b.back b op o e
 
 -- ---- the heads of replies that are sent, as they are received
 
--- what the head of an ONC reply that answers a call is received as
-abbrev pub answer_of : ℕ → ReplyHead
-answer_of id = record { head = xdr_reported.shared_head id; status = Answer; used = xdr_leads.answer_lead_length }
+-- the number of an arm of an operation: that of the answer, or of an exception that it raises, and one that a word holds
+abbrev pub IsArmOf : Binding → ℕ → ℕ → Type 0
+IsArmOf b op k = IsWord k × (k ≤ exceptions b op)
+
+-- what the head of an ONC reply with an arm is received as
+abbrev pub onc_reply_of : Binding → ℕ → ℕ → Head → ReplyHead
+onc_reply_of b op k head = xdr_laws.reply_of (exceptions b op) k head.id
+
+-- what the head of a Mach reply with an arm is received as
+abbrev pub mach_reply_of : Binding → ℕ → ℕ → Head → ReplyHead
+mach_reply_of b op k head = mach_laws.reply_of head.remote (arm_status k) (mach_leads.reply_lead_length (exceptions b op))
 
 -- how a request fared that is answered, or for which an exception of its operation is raised
 abbrev pub giop_fate_of : Target → ℕ → giop_reply.Fate
@@ -183,10 +194,10 @@ TellsInOrder r b op k head t =
 
 -- the head of a reply to an operation with an arm over a back end, whose numbers fit, says this
 abbrev pub TellsOver : Back → Binding → ℕ → ℕ → Head → Heard → Type 0
-TellsOver back.Xdr b op k head t = IsWord head.id × (heard_over back.Xdr b op (answer_of head.id) ≡ t)
+TellsOver back.Xdr b op k head t = IsWord head.id × IsArmOf b op k × (heard_over back.Xdr b op (onc_reply_of b op k head) ≡ t)
 TellsOver back.CdrBig b op k head t = TellsInOrder Big b op k head t
 TellsOver back.CdrLittle b op k head t = TellsInOrder Little b op k head t
-TellsOver back.Mach b op k head t = HasPorts head × (heard_over back.Mach b op (mach_laws.reply_of head.remote Answer) ≡ t)
+TellsOver back.Mach b op k head t = HasPorts head × IsArmOf b op k × (heard_over back.Mach b op (mach_reply_of b op k head) ≡ t)
 
 -- the head of a reply to an operation with an arm, whose numbers fit, says this
 abbrev pub Tells : Binding → ℕ → ℕ → Head → Heard → Type 0

@@ -8,6 +8,7 @@ ghost use Rattle.flick_engine.specs.Backs.{back_of, Begins, Stops, encoding_by, 
 use crate::engine::Engine;
 use crate::reply_leads::reply_id;
 use back_mach::routines::routine_of;
+use head_arms::exceptions_of;
 use head_kit::Called;
 use wire_def::{Back, Encoding, Head, HeadErr, Order, ReplyHead};
 
@@ -67,11 +68,15 @@ impl Engine {
         ensures stops { IfErr result (λ e. ReplyStops self.now.binding op message.now e) }
     {
         match self.bound().back() {
-            Back::Xdr => back_xdr::read_reply(message),
+            Back::Xdr => {
+                let arms = exceptions_of(self.bound(), op);
+                back_xdr::read_reply(message, arms)
+            }
             Back::CdrBig | Back::CdrLittle => giop_head::read_reply(message),
             Back::Mach => {
                 let id = reply_id(routine_of(self.bound(), op).id);
-                back_mach::read_reply(message, id)
+                let arms = exceptions_of(self.bound(), op);
+                back_mach::read_reply(message, id, arms)
             }
         }
     }

@@ -39,7 +39,7 @@ use Rattle.flick_engine.specs.Received.{Asked, Names, ReadCall}
 use Rattle.flick_engine.specs.RepliesReceived.{Came, answered, refused, Replied, CameTo, ReadReply}
 use Rattle.flick_engine.proofs.HeadsOfBacks.{heads_alike}
 use Rattle.flick_lines.specs.Unmarshalled.{answer_text, record_text, request_text, came_members, replied_text, reply_text, IsOfOctets, IsOfReply, IsParted}
-use Rattle.flick_lines.proofs.Twins.{AreTwins, faces_in, AreSame, ops_alike, first_same, rest_same, none_same, names_alike, dotted_alike, request_alike, arm_alike, of_unit}
+use Rattle.flick_lines.proofs.Twins.{AreTwins, faces_in, AreSame, ops_alike, first_same, rest_same, none_same, names_alike, dotted_alike, request_alike, arm_alike, of_both}
 use Rattle.flick_lines.proofs.TwinRecords.{IsFew, raises_alike, replying_alike}
 
 -- ---- calls
@@ -80,28 +80,33 @@ call_over b c t o (Ok r) (k, op, names, (same, head, spells)) =
 
 -- ---- replies
 
--- the head of a reply over a back end
-replies_same : (k : Back) (b c : Binding) → b.unit ≡ c.unit → (op : ℕ) (o : List ℕ) (t : Heard)
-    → RepliesOver k b op o t → RepliesOver k c op o t
-replies_same back.Xdr b c units op o t h = h
-replies_same back.CdrBig b c units op o t h = subst (λ (u : PlainUnit). RepliesOver back.CdrBig (of_unit c u) op o t) units h
-replies_same back.CdrLittle b c units op o t h = subst (λ (u : PlainUnit). RepliesOver back.CdrLittle (of_unit c u) op o t) units h
-replies_same back.Mach b c units op o t h = subst (λ (u : PlainUnit). RepliesOver back.Mach (of_unit c u) op o t) units h
+-- what holds of a binding of this unit over this back end, where it looks at nothing else
+along : (P : Binding → Type 0) (b c : Binding) → b.unit ≡ c.unit → b.back ≡ c.back → P (of_both c b.unit b.back) → P c
+along P b c units backs h =
+    subst (λ (e : Back). P (of_both c c.unit e)) backs (subst (λ (u : PlainUnit). P (of_both c u b.back)) units h)
 
-stops_same : (k : Back) (b c : Binding) → b.unit ≡ c.unit → (op : ℕ) (o : List ℕ) (e : HeadErr)
+-- the head of a reply over a back end
+replies_same : (k : Back) (b c : Binding) → b.unit ≡ c.unit → b.back ≡ c.back → (op : ℕ) (o : List ℕ) (t : Heard)
+    → RepliesOver k b op o t → RepliesOver k c op o t
+replies_same back.Xdr b c units backs op o t h = along (λ (x : Binding). RepliesOver back.Xdr x op o t) b c units backs h
+replies_same back.CdrBig b c units backs op o t h = along (λ (x : Binding). RepliesOver back.CdrBig x op o t) b c units backs h
+replies_same back.CdrLittle b c units backs op o t h = along (λ (x : Binding). RepliesOver back.CdrLittle x op o t) b c units backs h
+replies_same back.Mach b c units backs op o t h = along (λ (x : Binding). RepliesOver back.Mach x op o t) b c units backs h
+
+stops_same : (k : Back) (b c : Binding) → b.unit ≡ c.unit → b.back ≡ c.back → (op : ℕ) (o : List ℕ) (e : HeadErr)
     → ReplyStopsOver k b op o e → ReplyStopsOver k c op o e
-stops_same back.Xdr b c units op o e h = h
-stops_same back.CdrBig b c units op o e h = h
-stops_same back.CdrLittle b c units op o e h = h
-stops_same back.Mach b c units op o e h = subst (λ (u : PlainUnit). ReplyStopsOver back.Mach (of_unit c u) op o e) units h
+stops_same back.Xdr b c units backs op o e h = along (λ (x : Binding). ReplyStopsOver back.Xdr x op o e) b c units backs h
+stops_same back.CdrBig b c units backs op o e h = h
+stops_same back.CdrLittle b c units backs op o e h = h
+stops_same back.Mach b c units backs op o e h = along (λ (x : Binding). ReplyStopsOver back.Mach x op o e) b c units backs h
 
 begins_reply_over : (b c : Binding) → AreTwins b c → (op : ℕ) (o : List ℕ) (t : Heard) → BeginsReply b op o t → BeginsReply c op o t
 begins_reply_over b c twins op o t h =
-    subst (λ (k : Back). RepliesOver k c op o t) twins.backs (replies_same b.back b c twins.units op o t h)
+    subst (λ (k : Back). RepliesOver k c op o t) twins.backs (replies_same b.back b c twins.units twins.backs op o t h)
 
 stops_reply_over : (b c : Binding) → AreTwins b c → (op : ℕ) (o : List ℕ) (e : HeadErr) → ReplyStops b op o e → ReplyStops c op o e
 stops_reply_over b c twins op o e h =
-    subst (λ (k : Back). ReplyStopsOver k c op o e) twins.backs (stops_same b.back b c twins.units op o e h)
+    subst (λ (k : Back). ReplyStopsOver k c op o e) twins.backs (stops_same b.back b c twins.units twins.backs op o e h)
 
 came_over : (b c : Binding) → AreTwins b c → (op : ℕ) → op < length b.ops → (o : List ℕ) (h : Head) (r : Came)
     → CameTo b op o h r → CameTo c op o h r

@@ -109,20 +109,28 @@ message_alike b c t op below h v =
 abbrev pub of_unit : Binding → PlainUnit → Binding
 of_unit c u = record { nodes = c.nodes; shapes = c.shapes; ops = c.ops; unit = u; back = c.back }
 
+-- and one of this unit over this back end
+abbrev pub of_both : Binding → PlainUnit → Back → Binding
+of_both c u e = record { nodes = c.nodes; shapes = c.shapes; ops = c.ops; unit = u; back = e }
+
+-- what is alike of bindings by their units and back ends
+pub unit_alike : {A : Type 0} (f : Binding → A) (b c : Binding) → b.unit ≡ c.unit → b.back ≡ c.back
+    → f (of_both c b.unit b.back) ≡ f c
+unit_alike f b c units backs =
+    ap (λ (u : PlainUnit). f (of_both c u b.back)) units ∙ ap (λ (e : Back). f (of_both c c.unit e)) backs
+
 -- the head of a reply over a back end
-reply_lead_same : (e : Back) (b c : Binding) → b.unit ≡ c.unit → (op k : ℕ) (h : Head)
+reply_lead_same : (e : Back) (b c : Binding) → b.unit ≡ c.unit → b.back ≡ c.back → (op k : ℕ) (h : Head)
     → reply_lead_over e b op k h ≡ reply_lead_over e c op k h
-reply_lead_same back.Xdr b c units op k h = refl
-reply_lead_same back.CdrBig b c units op k h =
-    ap (λ (u : PlainUnit). reply_lead_over back.CdrBig (of_unit c u) op k h) units
-reply_lead_same back.CdrLittle b c units op k h =
-    ap (λ (u : PlainUnit). reply_lead_over back.CdrLittle (of_unit c u) op k h) units
-reply_lead_same back.Mach b c units op k h =
-    ap (λ (u : PlainUnit). reply_lead_over back.Mach (of_unit c u) op k h) units
+reply_lead_same back.Xdr b c units backs op k h = unit_alike (λ (x : Binding). reply_lead_over back.Xdr x op k h) b c units backs
+reply_lead_same back.CdrBig b c units backs op k h = unit_alike (λ (x : Binding). reply_lead_over back.CdrBig x op k h) b c units backs
+reply_lead_same back.CdrLittle b c units backs op k h =
+    unit_alike (λ (x : Binding). reply_lead_over back.CdrLittle x op k h) b c units backs
+reply_lead_same back.Mach b c units backs op k h = unit_alike (λ (x : Binding). reply_lead_over back.Mach x op k h) b c units backs
 
 reply_lead_alike : (b c : Binding) → AreTwins b c → (op k : ℕ) (h : Head) → reply_lead b op k h ≡ reply_lead c op k h
 reply_lead_alike b c t op k h =
-    reply_lead_same b.back b c t.units op k h ∙ ap (λ (e : Back). reply_lead_over e c op k h) t.backs
+    reply_lead_same b.back b c t.units t.backs op k h ∙ ap (λ (e : Back). reply_lead_over e c op k h) t.backs
 
 arm_message_alike : (b c : Binding) → AreTwins b c → (op : ℕ) → op < length b.ops → (k : ℕ) (h : Head) (w : Val)
     → arm_message b op k h w ≡ arm_message c op k h w

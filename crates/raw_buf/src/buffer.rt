@@ -94,16 +94,8 @@ impl SendBuf {
         ensures tally { self.new.tally ≡ stored self.old.tally }
         ensures spent { self.new.spent ≡ stored self.old.spent }
     {
-        match order {
-            Order::Big => {
-                let octets = v.to_be_bytes();
-                self.put_const(off, &octets[8 - width..]);
-            }
-            Order::Little => {
-                let octets = v.to_le_bytes();
-                self.put_const(off, &octets[..width]);
-            }
-        }
+        self.store_word(off, width, order, v);
+        self.count_store();
     }
 
     /// Stores octets at an offset from the cursor, in the space that is ensured.
@@ -225,6 +217,23 @@ impl SendBuf {
         write_at(&mut self.memory, start, octets);
     }
 
+    /// Stores a number at an offset, at no cost.
+    fn store_word(&mut self, off: usize, width: usize, order: Order, v: u64)
+        // What is put.
+        requires width { IsWidth width }
+        requires within { off + width ≤ length self.old.front }
+        requires fits { v < 256 ^ width }
+        // What is written.
+        ensures done { self.new.done ≡ self.old.done }
+        ensures front { self.new.front ≡ written self.old.front off (in_order order width v) }
+        // What stays the same.
+        ensures tally { self.new.tally ≡ self.old.tally }
+        ensures spent { self.new.spent ≡ self.old.spent }
+    {
+        let start = self.len + off;
+        write_word(&mut self.memory, start, width, order, v);
+    }
+
     /// Stores the numbers of an image at the beginning of the space, the octets of each reversed.
     pub(crate) fn store_swapped(&mut self, width: usize, image: &[u8])
         // What is stored.
@@ -307,4 +316,24 @@ fn write_at(memory: &mut Vec<u8>, at: usize, octets: &[u8])
     ensures { memory.new.items ≡ written memory.old.items at octets.now }
 {
     memory.as_mut_slice()[at..at + octets.len()].copy_from_slice(octets);
+}
+
+// Writes a number at a place: one store, since each arm knows the width.
+fn write_word(memory: &mut Vec<u8>, at: usize, width: usize, order: Order, v: u64)
+    requires width { IsWidth width }
+    requires within { at + width ≤ length memory.old.items }
+    requires fits { v < 256 ^ width }
+    ensures value { memory.new.items ≡ written memory.old.items at (in_order order width v) }
+    ensures width { length (in_order order width v) ≡ width }
+{
+    match (width, order) {
+        (1, Order::Big) => write_at(memory, at, &(v as u8).to_be_bytes()),
+        (1, Order::Little) => write_at(memory, at, &(v as u8).to_le_bytes()),
+        (2, Order::Big) => write_at(memory, at, &(v as u16).to_be_bytes()),
+        (2, Order::Little) => write_at(memory, at, &(v as u16).to_le_bytes()),
+        (4, Order::Big) => write_at(memory, at, &(v as u32).to_be_bytes()),
+        (4, Order::Little) => write_at(memory, at, &(v as u32).to_le_bytes()),
+        (_, Order::Big) => write_at(memory, at, &v.to_be_bytes()),
+        (_, Order::Little) => write_at(memory, at, &v.to_le_bytes()),
+    }
 }

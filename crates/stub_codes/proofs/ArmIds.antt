@@ -1,5 +1,6 @@
--- Over CDR the arms of a reply above 0 are as many as the ids of its operation's exceptions, by induction on the interfaces.
-use Rattle.std.proofs.Common.{◌≡◌, ◌<◌, ◌≤◌, ℕ, zero, suc, List, [], ◌∷◌, ◌++◌, map, length, Some, refl, sym, ap, ◌∙◌, arith}
+-- The arms of a reply above 0 are as many as its operation's exceptions, and over CDR as their ids, by induction on the
+-- interfaces.
+use Rattle.std.proofs.Common.{◌≡◌, ◌<◌, ◌≤◌, ℕ, zero, suc, List, [], ◌∷◌, ◌++◌, map, length, Option, Some, None, refl, sym, ap, ◌∙◌, arith}
 use Rattle.std.specs.Prelude.{slice_get, slice_index_or, option_map}
 use Rattle.std.proofs.lemmas.List.{map-append, length-map}
 use Rattle.std.proofs.lemmas.Option.{slice_get-map}
@@ -8,14 +9,52 @@ use Rattle.wire_def.specs.declared.encoding.Back.{Back}
 use Rattle.aoi.specs.Plain.{PlainRaise, PlainInterface, PlainOperation}
 use Rattle.pres.specs.Bindings.{Binding, IsBinding}
 use Rattle.pres.specs.Offers.{operations, type_faces}
+use Rattle.pres.specs.Raises.{raises_of, sources, sources_of}
+use Rattle.head_arms.specs.Raised.{exceptions}
+use Rattle.head_arms.proofs.Raising.{made_of, raises_made, all_made_of}
+use Rattle.head_arms.proofs.Raising as raising
 use Rattle.back_cdr.specs.Targets.{IsCdr, Target, no_target, target_in, targets_in, targets, target_of}
 use Rattle.back_cdr.proofs.Counting.{own_alone}
-use Rattle.stub_codes.specs.Operations.{operations_in}
+use Rattle.stub_codes.specs.Operations.{operations_in, IsOperation}
 use Rattle.stub_codes.specs.Replies.{reply_type, HasArm}
 use Rattle.stub_codes.proofs.Numbering.{few_arms}
 use Rattle.stub_codes.proofs.ReplyTypes.{are_the_replies}
 
 -- ---- the exceptions of an operation
+
+abbrev raises_in : PlainInterface × PlainOperation → List PlainRaise
+raises_in q = q.1.raises
+
+raises_each : (xs : List (Option PlainOperation)) → map raises_of xs ≡ map (λ (p : PlainOperation). p.raises) (map made_of xs)
+raises_each [] = refl
+raises_each (x ∷ xs) =
+    ap (λ (r : List PlainRaise). r ∷ map raises_of xs) (raises_made x)
+    ∙ ap (λ (l : List (List PlainRaise)). (made_of x).raises ∷ l) (raises_each xs)
+
+raises_first : (k : Back) (i : PlainInterface)
+    → map raises_of (sources_of k i) ≡ map raises_in (map (λ (p : PlainOperation). (i, p)) (operations k i))
+raises_first k i =
+    raises_each (sources_of k i) ∙ ap (map (λ (p : PlainOperation). p.raises)) (all_made_of k i)
+    ∙ sym (map-map raises_in (λ (p : PlainOperation). (i, p)) (operations k i))
+
+raises_all : (k : Back) (is : List PlainInterface) → map raises_of (sources k is) ≡ map raises_in (operations_in k is)
+raises_all k [] = refl
+raises_all k (i ∷ is) =
+    map-append raises_of (sources_of k i) (sources k is)
+    ∙ ap (λ (l : List (List PlainRaise)). l ++ map raises_of (sources k is)) (raises_first k i)
+    ∙ ap (λ (l : List (List PlainRaise)). map raises_in (map (λ (p : PlainOperation). (i, p)) (operations k i)) ++ l) (raises_all k is)
+    ∙ sym (map-append raises_in (map (λ (p : PlainOperation). (i, p)) (operations k i)) (operations_in k is))
+
+-- an operation has the exceptions that its unit has for it
+pub many_raised : (b : Binding) (op : ℕ) (i : PlainInterface) (p : PlainOperation) → IsOperation b op i p
+    → exceptions b op ≡ length p.raises
+many_raised b op i p is =
+    let here : slice_get (map raises_of (sources b.back b.unit.interfaces)) op ≡ Some p.raises =
+    ap (λ (l : List (List PlainRaise)). slice_get l op) (raises_all b.back b.unit.interfaces)
+    ∙ slice_get-map raises_in (operations_in b.back b.unit.interfaces) op ∙ ap (option_map raises_in) is in
+    ap length (raising.there raises_of (sources b.back b.unit.interfaces) op None p.raises here)
+
+-- ---- their ids over CDR
 
 abbrev target_at : PlainInterface × PlainOperation → Target
 target_at q = target_in q.0 q.1

@@ -1,5 +1,5 @@
 -- The heads of requests and of replies, and their code.
-use Rattle.std.proofs.Common.{◌≡◌, ◌⊎◌, inl, inr, ℕ, Result, Ok, Err, IfOk, refl, sym, subst, arith}
+use Rattle.std.proofs.Common.{◌≡◌, ◌⊎◌, inl, inr, ℕ, zero, suc, Result, Ok, Err, IfOk, refl, sym, subst, arith}
 use Rattle.kit_base.specs.declared.errors.NoMemory.{NoMemory}
 use Rattle.wire_def.specs.declared.encoding.Back.{Back}
 use Rattle.wire_def.specs.declared.encoding.Back.TheVariants as back
@@ -7,6 +7,7 @@ use Rattle.wire_def.specs.declared.head.Order.TheVariants.{Big, Little}
 use Rattle.cast_stub.specs.declared.send.SendCode.{SendCode}
 use Rattle.stub_lower.specs.Leads.{Leads}
 use Rattle.pres.specs.Bindings.{Binding}
+use Rattle.head_arms.specs.Raised.{exceptions}
 use Rattle.back_xdr.specs.Leads as xdr_leads
 use Rattle.back_xdr.specs.Procedures.{procedure_of}
 use Rattle.back_cdr.specs.Leads as cdr_leads
@@ -24,11 +25,19 @@ are_heads back.CdrBig b op = record { place = λ h. tt; long = λ h. long_reques
 are_heads back.CdrLittle b op = record { place = λ h. tt; long = λ h. long_request Little (target_of b op) h.id }
 are_heads back.Mach b op = record { place = λ h. refl; long = λ h. omega arith }
 
+onc_reply_heads : (arms arm : ℕ) → AreHeads back.Xdr (λ h. xdr_leads.reply_lead arms arm h.id)
+onc_reply_heads zero arm = record { place = λ h. refl; long = λ h. omega arith }
+onc_reply_heads (suc n) arm = record { place = λ h. refl; long = λ h. omega arith }
+
+mach_reply_heads : (b : Binding) (op arms arm : ℕ) → AreHeads back.Mach (mach_leads.reply_lead (routine_of b op) arms arm)
+mach_reply_heads b op zero arm = record { place = λ h. refl; long = λ h. omega arith }
+mach_reply_heads b op (suc n) arm = record { place = λ h. refl; long = λ h. omega arith }
+
 pub are_reply_heads : (k : Back) (b : Binding) (op arm : ℕ) → AreHeads k (reply_lead_over k b op arm)
-are_reply_heads back.Xdr b op arm = record { place = λ h. refl; long = λ h. omega arith }
+are_reply_heads back.Xdr b op arm = onc_reply_heads (exceptions b op) arm
 are_reply_heads back.CdrBig b op arm = record { place = λ h. tt; long = λ h. long_reply Big (target_of b op) arm h.id }
 are_reply_heads back.CdrLittle b op arm = record { place = λ h. tt; long = λ h. long_reply Little (target_of b op) arm h.id }
-are_reply_heads back.Mach b op arm = record { place = λ h. refl; long = λ h. omega arith }
+are_reply_heads back.Mach b op arm = mach_reply_heads b op (exceptions b op) arm
 
 -- ---- the code of a back end's head, as that of the head
 
@@ -69,11 +78,12 @@ along_reply b op arm k (Ok code) e h = subst (λ (x : Back). Leads (reply_lead_o
 along_reply b op arm k (Err x) e h = tt
 
 pub xdr_reply_lead : (b : Binding) (op arm : ℕ) (r : Result SendCode NoMemory) → b.back ≡ back.Xdr
-    → IfOk r (λ code. Leads (λ h. xdr_leads.answer_lead h.id) code) → IfOk r (λ code. Leads (reply_lead b op arm) code)
+    → IfOk r (λ code. Leads (λ h. xdr_leads.reply_lead (exceptions b op) arm h.id) code) → IfOk r (λ code. Leads (reply_lead b op arm) code)
 xdr_reply_lead b op arm r e h = along_reply b op arm back.Xdr r e h
 
 pub mach_reply_lead : (b : Binding) (op arm : ℕ) (r : Result SendCode NoMemory) → b.back ≡ back.Mach
-    → IfOk r (λ code. Leads (λ h. mach_leads.answer_lead (routine_of b op) h) code) → IfOk r (λ code. Leads (reply_lead b op arm) code)
+    → IfOk r (λ code. Leads (λ h. mach_leads.reply_lead (routine_of b op) (exceptions b op) arm h) code)
+    → IfOk r (λ code. Leads (reply_lead b op arm) code)
 mach_reply_lead b op arm r e h = along_reply b op arm back.Mach r e h
 
 cdr_reply_over : (k : Back) (b : Binding) (op arm : ℕ) (code : SendCode) → IsCdr k

@@ -10,7 +10,7 @@ pub mod Places
 pub mod ReplyTypes
 -- * The arm of a number stands at the place of the number among the arms of a reply's node, by induction on the arms
 mod Numbering
--- * Over CDR the arms of a reply above 0 are as many as the ids of its operation's exceptions, by induction on the interfaces
+-- * The arms of a reply above 0 are as many as its operation's exceptions, and over CDR as their ids, by induction on the interfaces
 pub mod ArmIds
 -- * The codes of operations and of their arms, one after the other
 mod Chained

@@ -9,6 +9,7 @@ use Rattle.wire_def.specs.declared.head.Order.TheVariants.{Big, Little}
 use Rattle.cast_stub.specs.Block.{Block, stop, patch}
 use Rattle.head_kit.specs.declared.called.Called.{Called}
 use Rattle.pres.specs.Bindings.{Binding}
+use Rattle.head_arms.specs.Raised.{exceptions}
 use Rattle.giop_head.specs.Printed.{with_size}
 use Rattle.back_xdr.specs.Leads as xdr_leads
 use Rattle.back_xdr.specs.Procedures.{procedure_of}
@@ -50,12 +51,12 @@ lead b op head = lead_over b.back b op head
 
 -- the head of a reply to an operation with an arm, over a back end
 abbrev pub reply_lead_over : Back → Binding → ℕ → ℕ → Head → List ℕ
-reply_lead_over back.Xdr b op k head = xdr_leads.answer_lead head.id
+reply_lead_over back.Xdr b op k head = xdr_leads.reply_lead (exceptions b op) k head.id
 reply_lead_over back.CdrBig b op k head = cdr_leads.reply_lead Big (target_of b op) k head.id
 reply_lead_over back.CdrLittle b op k head = cdr_leads.reply_lead Little (target_of b op) k head.id
-reply_lead_over back.Mach b op k head = mach_leads.answer_lead (routine_of b op) head
+reply_lead_over back.Mach b op k head = mach_leads.reply_lead (routine_of b op) (exceptions b op) k head
 
--- the head of a reply to an operation with an arm: 0 is the answer, k the k-th exception, which the heads of CDR alone tell
+-- the head of a reply to an operation with an arm: 0 is the answer, k the k-th exception
 abbrev pub reply_lead : Binding → ℕ → ℕ → Head → List ℕ
 reply_lead b op k head = reply_lead_over b.back b op k head
 

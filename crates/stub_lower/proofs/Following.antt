@@ -1,5 +1,6 @@
 -- The code of a node goes through its type in order.
-use Rattle.std.proofs.Common.{◌≡◌, inr, ℕ, zero, suc, ◌+◌, ◌<◌, ◌≤◌, ℤ, List, [], ◌∷◌, Option, Some, None, refl, arith, Bool, true, false}
+use Rattle.std.proofs.Common.{◌≡◌, inr, ℕ, zero, suc, ◌+◌, ◌<◌, ◌≤◌, ℤ, List, [], ◌∷◌, replicate, Option, Some, None, refl, arith, Bool, true, false}
+use Rattle.kit_base.specs.Bytes.{le}
 use Rattle.std.specs.Prelude.{nat_eq, nat_lt, if◌then◌else◌}
 use Rattle.mint.specs.declared.kind.Count.{Count}
 use Rattle.mint.specs.declared.kind.Count.TheVariants.{Exactly, AtMost, Any}
@@ -9,6 +10,7 @@ use Rattle.mint.specs.Types.{Scalar, number, label, Array, text, row_of, Ty, at,
 use Rattle.wire_def.specs.declared.encoding.Encoding.TheVariants.{Xdr, CdrBig, CdrLittle, Mach}
 use Rattle.wire_def.specs.declared.encoding.Encoding.{Encoding}
 use Rattle.wire_def.specs.declared.head.Order.{Order}
+use Rattle.wire_def.specs.Lone.{scalar_word, filling}
 use Rattle.wire_def.specs.Described.{is_long}
 use Rattle.wire_def.specs.Arrays.{counted, count_of, kind_of, is_octets}
 use Rattle.wire_def.specs.Send.{flag}
@@ -18,7 +20,7 @@ use Rattle.cast_stub.specs.Block.{Block, stop, align, chunk, call}
 use Rattle.cast_stub.specs.Follows.{flat, own_put, IsFlat, IsLoop, IsCount, Child, Loops, FollowsBy, FieldsFollowBy, ArmsFollowBy}
 use Rattle.cast_stub.specs.Turned.{IsNumber, IsTurned}
 use Rattle.cast_stub.specs.Layouts.{layout_of, order_of, scalar_width, element_width, is_gapped}
-use Rattle.stub_lower.specs.Items.{number_at}
+use Rattle.stub_lower.specs.Items.{number_at, item_rest}
 use Rattle.stub_lower.specs.Codes.{scalar_code, length_put, count_code, row_code, long_code, short_code, described_code, head_code, gapped_turn, turn_code, after_code, array_code, tag_code, flag_code, call_here, calls_from, cases_at, node_code}
 
 -- ---- what an encoding gives
@@ -31,31 +33,53 @@ aligned-few : (t : Bool) (w : ℕ) (x : Put) → Few 2 (if t then chunk w (x ∷
 aligned-few true w x = (1, refl, omega arith)
 aligned-few false w x = (2, refl, omega arith)
 
-scalar-few : (e : Encoding) (s : Scalar) (x : Put) → Few 2 (scalar_code e s x)
+-- how many puts and aligns a scalar by itself has at most
+abbrev most : Encoding → ℕ
+most Mach = 3
+most _ = 2
+
+two-most : (e : Encoding) → 2 ≤ most e
+two-most Xdr = omega arith
+two-most CdrBig = omega arith
+two-most CdrLittle = omega arith
+two-most Mach = omega arith
+
+most-three : (e : Encoding) → most e ≤ 3
+most-three Xdr = omega arith
+most-three CdrBig = omega arith
+most-three CdrLittle = omega arith
+most-three Mach = omega arith
+
+item-few : (w : ℕ) (none : Bool) (first x last : Put) → Few 3 (chunk w (first ∷ x ∷ (if none then [] else last ∷ [])) stop)
+item-few w true first x last = (2, refl, omega arith)
+item-few w false first x last = (3, refl, omega arith)
+
+scalar-few : (e : Encoding) (s : Scalar) (x : Put) → Few (most e) (scalar_code e s x)
 scalar-few Xdr s x = (1, refl, omega arith)
 scalar-few CdrBig s x = aligned-few (nat_eq (scalar_width CdrBig s) 1) (scalar_width CdrBig s) x
 scalar-few CdrLittle s x = aligned-few (nat_eq (scalar_width CdrLittle s) 1) (scalar_width CdrLittle s) x
-scalar-few Mach s x = (2, refl, omega arith)
+scalar-few Mach s x = item-few (4 + item_rest s) (nat_eq (filling s) 0) (put.Const 0 (le 4 (scalar_word s))) x
+    (put.Const (4 + scalar_width Mach s) (replicate (filling s) 0))
 
 pub flat_scalar : (e : Encoding) (s : Scalar) (x : Put) → IsFlat 3 (scalar_code e s x)
-flat_scalar e s x = let f = scalar-few e s x in (f.0, f.1, omega (arith, f.2))
+flat_scalar e s x = let f = scalar-few e s x in (f.0, f.1, omega (arith, f.2, most-three e))
 
 counts : (e : Encoding) (c : Count) → IsCount c (count_code e c)
 counts e (Exactly m) = refl
 counts e (AtMost m) = flat_scalar e counted (length_put e 0)
 counts e Any = flat_scalar e counted (length_put e 0)
 
-count-few : (e : Encoding) (c : Count) → Few 2 (count_code e c)
-count-few e (Exactly m) = (0, refl, omega arith)
+count-few : (e : Encoding) (c : Count) → Few (most e) (count_code e c)
+count-few e (Exactly m) = (0, refl, omega (arith, two-most e))
 count-few e (AtMost m) = scalar-few e counted (length_put e 0)
 count-few e Any = scalar-few e counted (length_put e 0)
 
-row-few : (e : Encoding) (w : ℕ) (c : Count) → Few 2 (row_code e w c)
-row-few e w (Exactly zero) = (0, refl, omega arith)
+row-few : (e : Encoding) (w : ℕ) (c : Count) → Few (most e) (row_code e w c)
+row-few e w (Exactly zero) = (0, refl, omega (arith, two-most e))
 row-few e w (Exactly (suc m)) = either (nat_eq w 1) where
-  either : (t : Bool) → Few 2 (if t then stop else align w stop)
-  either true = (0, refl, omega arith)
-  either false = (1, refl, omega arith)
+  either : (t : Bool) → Few (most e) (if t then stop else align w stop)
+  either true = (0, refl, omega (arith, two-most e))
+  either false = (1, refl, omega (arith, two-most e))
 row-few e w (AtMost m) = count-few e (AtMost m)
 row-few e w Any = count-few e Any
 

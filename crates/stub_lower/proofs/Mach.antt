@@ -1,9 +1,8 @@
 -- What the leaves of Mach messages append: items, descriptors, rows and texts.
-use Rattle.std.proofs.Common.{◌≡◌, ℕ, zero, suc, ◌+◌, ◌*◌, ◌/◌, ◌%◌, ◌^◌, ◌<◌, ◌≤◌, ℤ, pos, negsuc, List, [], ◌∷◌, ◌++◌, length, map, replicate, Option, Some, None, option_map, refl, sym, ap, subst, ◌∙◌, arith, length-append, IsTrue, Bool, true, false, if◌then◌else◌}
-use Rattle.std.specs.Prelude.{nat_lt}
+use Rattle.std.proofs.Common.{◌≡◌, ℕ, ◌+◌, ◌*◌, ◌/◌, ◌%◌, ◌<◌, ◌≤◌, ℤ, pos, negsuc, List, [], ◌∷◌, ◌++◌, length, map, replicate, Option, Some, None, option_map, refl, sym, ap, subst, ◌∙◌, arith, append_assoc, length-append, IsTrue, Bool, true, false, if◌then◌else◌}
+use Rattle.std.specs.Prelude.{nat_lt, nat_eq}
 use Rattle.std.specs.List.{list_all}
-use Rattle.std.specs.Int.{byte_len}
-use Rattle.std.proofs.lemmas.Bool.{ltb-true, ltb-false, lt-ltb}
+use Rattle.std.proofs.lemmas.Bool.{ltb-true, ltb-false, lt-ltb, eqb-true}
 use Rattle.std.proofs.lemmas.List.{append-nil, length-replicate}
 use Rattle.kit_base.specs.Bytes.{le}
 use Rattle.mint.specs.declared.kind.Kind.{Kind}
@@ -11,8 +10,8 @@ use Rattle.mint.specs.declared.kind.Kind.TheVariants as kind
 use Rattle.mint.specs.declared.kind.Count.{Count}
 use Rattle.mint.specs.declared.kind.Count.TheVariants.{Exactly, AtMost, Any}
 use Rattle.mint.specs.Kinds.{Allows, in_range}
-use Rattle.mint.specs.Types.{Scalar, number, Array, text, row_of}
-use Rattle.mint.specs.Typed.{IsScalar, IsArray}
+use Rattle.mint.specs.Types.{Scalar, number, text, row_of}
+use Rattle.mint.specs.Typed.{IsArray}
 use Rattle.mint.specs.Values.{Val, num, row, vals_of}
 use Rattle.wire_def.specs.declared.encoding.Encoding.TheVariants.{Mach}
 use Rattle.wire_def.specs.declared.head.Head.{Head}
@@ -22,58 +21,98 @@ use Rattle.wire_def.specs.Scalars.{gap, scalar_octets, number_octets, residue, w
 use Rattle.wire_def.specs.Lone.{unit_name, unit_bits, units_of, short_word, scalar_word, filling, lone_octets}
 use Rattle.wire_def.specs.Described.{is_long, long_mark, long_words, described_octets}
 use Rattle.wire_def.specs.Descriptors.{descriptor}
-use Rattle.wire_def.specs.Arrays.{natural, counted, count_of, kind_of, head_octets, element_octets, elements_octets, array_octets}
+use Rattle.wire_def.specs.Arrays.{natural, counted, head_octets, element_octets, elements_octets, array_octets}
 use Rattle.wire_def.proofs.Words.{wide}
 use Rattle.cast_stub.specs.declared.put.Put.{Put}
 use Rattle.cast_stub.specs.declared.put.Put.TheVariants as put
 use Rattle.cast_stub.specs.Parts.{on_some}
-use Rattle.cast_stub.specs.Puts.{put_octets, offset, word, placed}
-use Rattle.cast_stub.specs.Block.{Block, stop, align, chunk, each}
+use Rattle.cast_stub.specs.Puts.{Cells, put_octets, offset, word, placed, put_all, full, filled}
+use Rattle.cast_stub.specs.Block.{Block, stop, align, each}
 use Rattle.cast_stub.specs.Append.{append}
-use Rattle.cast_stub.specs.Steps.{Steps, Calls, steps, over, chunk_steps}
+use Rattle.cast_stub.specs.Steps.{Steps, Stored, Calls, steps, over, chunk_steps}
 use Rattle.cast_stub.specs.Meaning.{wrote}
-use Rattle.cast_stub.specs.Layouts.{order_of, scalar_width}
+use Rattle.cast_stub.specs.Layouts.{scalar_width}
 use Rattle.cast_stub.proofs.Appending.{steps-append}
-use Rattle.cast_stub.proofs.Putting.{placed_whole, full_whole}
+use Rattle.cast_stub.proofs.Putting.{full_whole}
 use Rattle.stub_lower.specs.Items.{item_rest}
-use Rattle.stub_lower.specs.Codes.{item_octets, item_code, long_octets, long_code, short_code, described_code, number_put, number_chunk, filling_code, array_code}
+use Rattle.stub_lower.specs.Codes.{filling_puts, item_code, long_octets, long_code, short_code, described_code, number_put, number_chunk, filling_code}
 use Rattle.stub_lower.proofs.Writing.{Writes, both-writes, none-writes, writes_same, writes_stop, Sends, put-writes}
 use Rattle.stub_lower.proofs.Words as words
 use Rattle.stub_lower.proofs.Words.{width_same, word-octet}
-use Rattle.stub_lower.proofs.Encoded.{ScalarsSend, ArraysSend, first_true, second_true, over-writes, octets_long, letters_are_octets}
+use Rattle.stub_lower.proofs.Encoded.{ScalarsSend, ArraysSend, over-writes, octets_long, letters_are_octets}
 use Rattle.stub_lower.proofs.RecvItems.{rest_whole}
 use Rattle.stub_lower.proofs.UnitLaws.{Units, single, twice, units, name_small, bits_small, along, along_one, along_words, along_times}
 
--- ---- two puts, the second over octets of the first
+-- ---- puts, each of which begins where the one before it ends
 
-over_first : (mid os back : List ℕ) → length os ≡ length mid → placed 0 os (map Some (mid ++ back)) ≡ Some (map Some (os ++ back))
-over_first [] [] back same = refl
-over_first [] (o ∷ os) back same = absurd cc
-over_first (m ∷ mid) [] back same = absurd cc
-over_first (m ∷ mid) (o ∷ os) back same = ap (option_map (λ ds. Some o ∷ ds)) (over_first mid os back (omega (arith, same)))
+-- cells for so many octets, none of them put
+abbrev blanks : List ℕ → Cells
+blanks [] = []
+blanks (x ∷ xs) = None ∷ blanks xs
 
-placed_over : (front mid back os : List ℕ) → length os ≡ length mid
-    → placed (length front) os (map Some (front ++ (mid ++ back))) ≡ Some (map Some (front ++ (os ++ back)))
-placed_over [] mid back os same = over_first mid os back same
-placed_over (x ∷ front) mid back os same = ap (option_map (λ ds. Some x ∷ ds)) (placed_over front mid back os same)
+blanks_are : (xs : List ℕ) → replicate {A = Option ℕ} (length xs) None ≡ blanks xs
+blanks_are [] = refl
+blanks_are (x ∷ xs) = ap (λ (cs : Cells). None ∷ cs) (blanks_are xs)
 
-pair-writes : (size : ℕ) (a x : Put) (h : Head) (v : Val) (front mid back os : List ℕ) (p : ℕ) → offset a ≡ 0
-    → put_octets h a v ≡ Some (front ++ (mid ++ back)) → offset x ≡ length front → put_octets h x v ≡ Some os → length os ≡ length mid
-    → length (front ++ (mid ++ back)) ≡ size
-    → Writes (chunk_steps size (a ∷ x ∷ []) h v) p (front ++ (os ++ back))
-pair-writes size a x h v front mid back os p first is second x_is same long base before at =
-    subst (λ (k : ℕ). on_some (chunk_steps k (a ∷ x ∷ []) h v) (wrote base before) ≡ Some (before ++ (front ++ (os ++ back)))) long
-    (rw
-    (is, first, placed_whole (front ++ (mid ++ back)), x_is, second, placed_over front mid back os same, full_whole (front ++ (os ++ back)))
-    refl)
+placed_blank : (os rest : List ℕ) → placed 0 os (blanks (os ++ rest)) ≡ Some (map Some os ++ blanks rest)
+placed_blank [] rest = refl
+placed_blank (o ∷ os) rest = ap (option_map (λ ds. Some o ∷ ds)) (placed_blank os rest)
+
+placed_after : (front os rest : List ℕ)
+    → placed (length front) os (map Some front ++ blanks (os ++ rest)) ≡ Some (map Some (front ++ os) ++ blanks rest)
+placed_after [] os rest = placed_blank os rest
+placed_after (x ∷ front) os rest = ap (option_map (λ ds. Some x ∷ ds)) (placed_after front os rest)
+
+put_next : (h : Head) (v : Val) (x : Put) (ps : List Put) (front os rest : List ℕ) → offset x ≡ length front
+    → put_octets h x v ≡ Some os
+    → put_all h v (x ∷ ps) (map Some front ++ blanks (os ++ rest)) ≡ put_all h v ps (map Some (front ++ os) ++ blanks rest)
+put_next h v x ps front os rest first is =
+    let cs : Cells = map Some front ++ blanks (os ++ rest) in
+    ap (λ (o : Option (List ℕ)). on_some (on_some o (λ b. placed (offset x) b cs)) (put_all h v ps)) is
+    ∙ ap (λ (n : ℕ). on_some (placed n os cs) (put_all h v ps)) first
+    ∙ ap (λ (o : Option Cells). on_some o (put_all h v ps)) (placed_after front os rest)
+
+-- the puts of octets and of a number, and zeros after them, unless there are none
+abbrev item_puts : Bool → List ℕ → Put → ℕ → ℕ → List Put
+item_puts none front x w z = put.Const 0 front ∷ x ∷ (if none then [] else put.Const (4 + w) (replicate z 0) ∷ [])
+
+item_filled : (none : Bool) (x : Put) (h : Head) (v : Val) (front os : List ℕ) (w z : ℕ) → (none ≡ true → z ≡ 0) → length front ≡ 4
+    → offset x ≡ length front → put_octets h x v ≡ Some os → length os ≡ w
+    → on_some (put_all h v (item_puts none front x w z) (blanks (front ++ (os ++ replicate z 0)))) full
+    ≡ Some (front ++ (os ++ replicate z 0))
+item_filled true x h v front os w z blank four first is long =
+    subst
+    (λ (n : ℕ). on_some (put_all h v (put.Const 0 front ∷ x ∷ []) (blanks (front ++ (os ++ replicate n 0)))) full
+    ≡ Some (front ++ (os ++ replicate n 0))) (sym (blank refl))
+    (ap (λ (o : Option Cells). on_some o full)
+    (put_next h v (put.Const 0 front) (x ∷ []) [] front (os ++ []) refl refl ∙ put_next h v x [] front os [] first is)
+    ∙ ap full (append-nil (map Some (front ++ os))) ∙ full_whole (front ++ os)
+    ∙ ap (λ (l : List ℕ). Some (front ++ l)) (sym (append-nil os)))
+item_filled false x h v front os w z blank four first is long =
+    let zeros : List ℕ = replicate z 0 in
+    let last : Put = put.Const (4 + w) zeros in
+    let after : 4 + w ≡ length (front ++ os) = omega (arith, length-append front os, four, long) in
+    ap (λ (o : Option Cells). on_some o full)
+    (put_next h v (put.Const 0 front) (x ∷ last ∷ []) [] front (os ++ zeros) refl refl
+    ∙ put_next h v x (last ∷ []) front os zeros first is
+    ∙ ap (λ (l : List ℕ). put_all h v (last ∷ []) (map Some (front ++ os) ++ blanks l)) (sym (append-nil zeros))
+    ∙ put_next h v last [] (front ++ os) zeros [] after refl)
+    ∙ ap full (append-nil (map Some ((front ++ os) ++ zeros))) ∙ full_whole ((front ++ os) ++ zeros)
+    ∙ ap Some (append_assoc front os zeros)
+
+item-writes : (none : Bool) (size : ℕ) (x : Put) (h : Head) (v : Val) (front os : List ℕ) (w z p : ℕ) → (none ≡ true → z ≡ 0)
+    → length front ≡ 4 → offset x ≡ length front → put_octets h x v ≡ Some os → length os ≡ w
+    → length (front ++ (os ++ replicate z 0)) ≡ size
+    → Writes (chunk_steps size (item_puts none front x w z) h v) p (front ++ (os ++ replicate z 0))
+item-writes none size x h v front os w z p blank four first is same long base before at =
+    let all : List ℕ = front ++ (os ++ replicate z 0) in
+    let ps : List Put = item_puts none front x w z in
+    let whole : filled (length all) ps h v ≡ Some all = ap (λ (cs : Cells). on_some (put_all h v ps cs) full) (blanks_are all)
+    ∙ item_filled none x h v front os w z blank four first is same in
+    subst (λ (k : ℕ). on_some (chunk_steps k ps h v) (wrote base before) ≡ Some (before ++ all)) long
+    (ap (λ (o : Option (List ℕ)). on_some (on_some o (λ b. Some (Stored b (length ps) ∷ []))) (wrote base before)) whole)
 
 -- ---- items
-
-replicate_sum : (a b : ℕ) → replicate {A = ℕ} (a + b) 0 ≡ replicate a 0 ++ replicate b 0
-replicate_sum zero b = let none : 0 + b ≡ b = omega arith in ap (λ (n : ℕ). replicate n 0) none
-replicate_sum (suc a) b =
-    let more : suc a + b ≡ suc (a + b) = omega arith in
-    ap (λ (n : ℕ). replicate n 0) more ∙ ap (λ (l : List ℕ). 0 ∷ l) (replicate_sum a b)
 
 -- over Mach a scalar has no gap
 bare_octets : (s : Scalar) (p : ℕ) (n : ℤ) → scalar_octets Mach s p n ≡ number_octets Mach (width_of Mach s) (residue (width_of Mach s) n)
@@ -89,23 +128,19 @@ pub mach_scalar : ScalarsSend Mach
 mach_scalar c h s n x v p typed first is place =
     let os : List ℕ = number_octets Mach (width_of Mach s) (residue (width_of Mach s) n) in
     let front : List ℕ = le 4 (scalar_word s) in
-    let mid : List ℕ = replicate (scalar_width Mach s) 0 in
-    let back : List ℕ = replicate (filling s) 0 in
-    let blank : item_octets s ≡ front ++ (mid ++ back) =
-    ap (λ (l : List ℕ). front ++ l) (replicate_sum (scalar_width Mach s) (filling s)) in
-    let same : length os ≡ length mid = bare_long s n ∙ sym (length-replicate {A = ℕ} (scalar_width Mach s) 0) in
-    let long : length (front ++ (mid ++ back)) ≡ 4 + item_rest s = ap length (sym blank)
-    ∙ length-append front (replicate {A = ℕ} (item_rest s) 0) ∙ ap (λ (k : ℕ). 4 + k) (length-replicate {A = ℕ} (item_rest s) 0) in
-    let sent : front ++ (os ++ back) ≡ lone_octets Mach s p n = ap (λ (l : List ℕ). front ++ (l ++ back)) (sym (bare_octets s (p + 4) n)) in
-    let size : length (front ++ (os ++ back)) ≡ 4 + item_rest s =
-    length-append front (os ++ back) ∙ ap (λ (k : ℕ). 4 + k) (length-append os back ∙ ap (λ (k : ℕ). k + length back) (bare_long s n)
+    let zeros : List ℕ = replicate (filling s) 0 in
+    let sent : front ++ (os ++ zeros) ≡ lone_octets Mach s p n =
+    ap (λ (l : List ℕ). front ++ (l ++ zeros)) (sym (bare_octets s (p + 4) n)) in
+    let size : length (front ++ (os ++ zeros)) ≡ 4 + item_rest s =
+    length-append front (os ++ zeros) ∙ ap (λ (k : ℕ). 4 + k) (length-append os zeros ∙ ap (λ (k : ℕ). k + length zeros) (bare_long s n)
     ∙ ap (λ (k : ℕ). scalar_width Mach s + k) (length-replicate {A = ℕ} (filling s) 0)) in
     let whole : (4 + item_rest s) % 4 ≡ 0 = omega (arith, rest_whole s) in (
       subst (λ (o : List ℕ). IsPlace Mach (length o)) sent (subst (IsPlace Mach) (sym size) whole),
-      writes_same (steps c h (item_code s x) v) p (front ++ (os ++ back)) (lone_octets Mach s p n) sent
-          (writes_stop (chunk_steps (4 + item_rest s) (put.Const 0 (item_octets s) ∷ x ∷ []) h v) p (front ++ (os ++ back))
-          (pair-writes (4 + item_rest s) (put.Const 0 (item_octets s)) x h v front mid back os p refl (ap Some blank) first
-          (is ∙ words.scalar_word Mach s n typed) same long)),
+      writes_same (steps c h (item_code s x) v) p (front ++ (os ++ zeros)) (lone_octets Mach s p n) sent
+          (writes_stop (chunk_steps (4 + item_rest s) (put.Const 0 front ∷ x ∷ filling_puts s) h v) p (front ++ (os ++ zeros))
+          (item-writes (nat_eq (filling s) 0) (4 + item_rest s) x h v front os (scalar_width Mach s) (filling s) p
+          (eqb-true (filling s) 0) refl first
+          (is ∙ words.scalar_word Mach s n typed) (bare_long s n) size)),
     )
 
 -- ---- descriptors

@@ -1,5 +1,5 @@
 -- What the code of a row or text reads, and that of XDR.
-use Rattle.std.proofs.Common.{◌≡◌, ℕ, zero, suc, ◌+◌, ◌%◌, ◌<◌, ℤ, pos, List, [], ◌∷◌, length, take, drop, Some, refl, sym, ap, subst, ◌∙◌, arith, Bool, true, false, ◌&&◌, if◌then◌else◌, not}
+use Rattle.std.proofs.Common.{◌≡◌, ℕ, zero, suc, ◌+◌, ◌<◌, ℤ, pos, List, [], ◌∷◌, length, take, drop, Some, refl, sym, ap, subst, ◌∙◌, arith, Bool, true, false, ◌&&◌, if◌then◌else◌, not}
 use Rattle.std.specs.Prelude.{nat_lt}
 use Rattle.std.specs.Int.{w8}
 use Rattle.std.specs.Ordering.{int_eq}
@@ -29,7 +29,7 @@ use Rattle.cast_stub.specs.RecvBlock.{Recv, finish, skip_zero, each}
 use Rattle.cast_stub.specs.Draft.{Draft, raw, digit, lined, done, settle}
 use Rattle.cast_stub.specs.Fill.{settled_number, runs, fill_each, fill_row, Callees, fill}
 use Rattle.cast_stub.specs.Into.{passed, all_zero, num_into}
-use Rattle.cast_stub.specs.Runs.{Place, Run, gives, refuses, strays, Filler, Going, then_run, map_run}
+use Rattle.cast_stub.specs.Runs.{Place, Run, gives, refuses, Filler, Going, then_run, map_run}
 use Rattle.cast_stub.specs.Layouts.{order_of, scalar_width}
 use Rattle.cast_stub.proofs.RecvAppending.{fill-append}
 use Rattle.cast_stub.specs.RecvAppend.{append}

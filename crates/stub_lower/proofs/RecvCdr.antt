@@ -1,45 +1,31 @@
 -- What the leaves of CDR read: numbers after their alignment, texts that end, rows.
-use Rattle.std.proofs.Common.{◌≡◌, ℕ, zero, suc, ◌+◌, ◌-◌, ◌*◌, ◌/◌, ◌%◌, ◌<◌, ◌≤◌, ℤ, pos, negsuc, List, [], ◌∷◌, length, take, drop, get_or, max, Option, Some, None, refl, sym, ap, subst, ◌∙◌, arith, Bool, true, false, ◌&&◌, if◌then◌else◌}
-use Rattle.std.specs.Prelude.{nat_lt, nat_le, nat_eq}
-use Rattle.std.specs.Int.{Width, w32, byte_len, from_be_bytes, from_le_bytes}
-use Rattle.std.proofs.lemmas.Bool.{le-leb, eq-eqb, lt-ltb, le-ltb, ltb-true, ltb-false}
+use Rattle.std.proofs.Common.{◌≡◌, ℕ, ◌+◌, ◌-◌, ◌≤◌, ℤ, List, length, take, drop, Option, refl, sym, ap, subst, ◌∙◌, arith, Bool, true, false, if◌then◌else◌}
+use Rattle.std.specs.Prelude.{nat_lt}
+use Rattle.std.specs.Int.{Width, byte_len}
+use Rattle.std.proofs.lemmas.Bool.{lt-ltb, le-ltb, ltb-true, ltb-false}
 use Rattle.std.proofs.lemmas.List.{length-drop}
-use Rattle.mint.specs.declared.kind.Kind.{Kind}
-use Rattle.mint.specs.declared.kind.Kind.TheVariants as kind
-use Rattle.mint.specs.declared.kind.Count.{Count}
-use Rattle.mint.specs.declared.kind.Count.TheVariants.{Exactly, AtMost, Any}
-use Rattle.mint.specs.Blank.{least}
-use Rattle.mint.specs.Types.{Scalar, number, Array, text, row_of, array_type}
+use Rattle.mint.specs.Types.{Scalar}
 use Rattle.mint.specs.Typed.{is_scalar}
-use Rattle.mint.specs.Values.{num, row}
 use Rattle.wire_def.specs.declared.encoding.Encoding.{Encoding}
 use Rattle.wire_def.specs.declared.encoding.Encoding.TheVariants.{CdrBig, CdrLittle}
 use Rattle.wire_def.specs.declared.fault.FaultKind.{FaultKind}
-use Rattle.wire_def.specs.declared.fault.FaultKind.TheVariants.{Short, BadValue, BadText, OverBound}
-use Rattle.wire_def.specs.declared.head.Order.{Order}
-use Rattle.wire_def.specs.declared.head.Order.TheVariants.{Big, Little}
-use Rattle.wire_def.specs.Grammar.{Reading, got, stop, Reader, AreOctets, then_on, map_got, times, tested}
-use Rattle.wire_def.specs.Places.{IsPlace}
-use Rattle.wire_def.specs.Scalars.{gap, scalar_place, is_signed, number_of, width_of, alignment_of, octets_number, read_word, read_scalar}
-use Rattle.wire_def.specs.Described.{allowed}
-use Rattle.wire_def.specs.Arrays.{counted, kind_of, count_of, is_some, less_one, may_stand, read_count, read_ended, read_head, read_octet, read_zeros, read_element, read_tail, read_array}
-use Rattle.wire_def.proofs.Words.{IsOwn, is8, is16, is32, is64, own_of, octet_at}
-use Rattle.wire_def.specs.Orders.{width_in, loaded}
+use Rattle.wire_def.specs.declared.fault.FaultKind.TheVariants.{Short, BadValue}
+use Rattle.wire_def.specs.Grammar.{Reading, got, stop, Reader, AreOctets, then_on, map_got}
+use Rattle.wire_def.specs.Scalars.{gap, is_signed, number_of, width_of, alignment_of, octets_number, read_word, read_scalar}
+use Rattle.wire_def.proofs.Words.{IsOwn, is8, is16, is32, is64, own_of}
 use Rattle.cast_stub.specs.declared.recv.Get.{Get}
-use Rattle.cast_stub.specs.declared.recv.Get.TheVariants as get
-use Rattle.cast_stub.specs.RecvBlock.{Recv, finish, skip_any, pass, each}
-use Rattle.cast_stub.specs.RecvAppend.{append}
-use Rattle.cast_stub.specs.Draft.{Draft, raw, digit, lined, done}
-use Rattle.cast_stub.specs.Fill.{settled_number, runs, fill_each, fill_row, Callees, fill, all_got}
-use Rattle.cast_stub.specs.Into.{passed, same_octets, scalar_into, length_of, length_into, count_into, allows}
-use Rattle.cast_stub.specs.Runs.{Place, Run, gives, refuses, strays, Filler, then_run, if_passed, if_some}
+use Rattle.cast_stub.specs.RecvBlock.{Recv, skip_any}
+use Rattle.cast_stub.specs.Draft.{Draft}
+use Rattle.cast_stub.specs.Fill.{Callees, fill}
+use Rattle.cast_stub.specs.Into.{passed}
+use Rattle.cast_stub.specs.Runs.{Place, Run, gives, refuses, then_run}
 use Rattle.cast_stub.specs.Steps.{is_width}
-use Rattle.cast_stub.specs.Layouts.{order_of, scalar_width}
-use Rattle.stub_lower.specs.RecvCodes.{aligned, take_code, scalar_code, number_take, length_get, count_code, ended_code, row_code, end_code, array_code}
+use Rattle.cast_stub.specs.Layouts.{scalar_width}
+use Rattle.stub_lower.specs.RecvCodes.{aligned, take_code}
 use Rattle.stub_lower.proofs.Words.{width_same}
 use Rattle.stub_lower.proofs.Cdr.{no_gap_after, still_none}
-use Rattle.stub_lower.proofs.Agreeing.{Agrees, Same, Settles, agrees-then, agrees-wider, agrees-ends, agrees-runs, SameEnds, ends-same, ends-map, ends-then}
-use Rattle.stub_lower.proofs.RecvEncoded.{tested_place, passed_place, pass_tested, le_true, octets_dropped, word_same, same_true, Reads, reads-wider, Takes, taken, After, LonesRead, bare-scalar, count-reads}
+use Rattle.stub_lower.proofs.Agreeing.{Same, agrees-wider, agrees-ends, SameEnds, ends-map, ends-then}
+use Rattle.stub_lower.proofs.RecvEncoded.{tested_place, passed_place, pass_tested, octets_dropped, Reads, Takes, LonesRead, bare-scalar}
 
 -- ---- a skip to a multiple
 

@@ -1,8 +1,8 @@
 -- What the code of a row or text reads over CDR.
-use Rattle.std.proofs.Common.{◌≡◌, ℕ, zero, suc, ◌+◌, ◌-◌, ◌*◌, ◌/◌, ◌%◌, ◌<◌, ◌≤◌, ℤ, pos, negsuc, List, [], ◌∷◌, length, take, drop, get_or, max, Option, Some, None, refl, sym, ap, subst, ◌∙◌, arith, Bool, true, false, ◌&&◌, if◌then◌else◌}
+use Rattle.std.proofs.Common.{◌≡◌, ℕ, zero, suc, ◌+◌, ◌-◌, ◌*◌, ◌/◌, ◌%◌, ◌<◌, ℤ, pos, negsuc, List, [], ◌∷◌, length, take, drop, max, Option, Some, None, refl, sym, ap, subst, ◌∙◌, arith, Bool, true, false, ◌&&◌, if◌then◌else◌}
 use Rattle.std.specs.Prelude.{nat_lt, nat_le, nat_eq}
-use Rattle.std.specs.Int.{Width, w32, byte_len, from_be_bytes, from_le_bytes}
-use Rattle.std.proofs.lemmas.Bool.{lt-ltb, le-ltb, ltb-false, ne_eqb}
+use Rattle.std.specs.Int.{Width, w32, byte_len}
+use Rattle.std.proofs.lemmas.Bool.{lt-ltb, le-ltb, ne_eqb}
 use Rattle.mint.specs.declared.kind.Kind.{Kind}
 use Rattle.mint.specs.declared.kind.Kind.TheVariants as kind
 use Rattle.mint.specs.declared.kind.Count.{Count}
@@ -15,28 +15,27 @@ use Rattle.wire_def.specs.declared.fault.FaultKind.{FaultKind}
 use Rattle.wire_def.specs.declared.fault.FaultKind.TheVariants.{Short, BadText, OverBound}
 use Rattle.wire_def.specs.declared.head.Order.{Order}
 use Rattle.wire_def.specs.declared.head.Order.TheVariants.{Big, Little}
-use Rattle.wire_def.specs.Grammar.{Reading, got, stop, Reader, AreOctets, then_on, map_got, times, tested}
+use Rattle.wire_def.specs.Grammar.{Reading, got, stop, Reader, AreOctets, then_on, map_got, times}
 use Rattle.wire_def.specs.Places.{IsPlace}
 use Rattle.wire_def.specs.Scalars.{gap, scalar_place, width_of, alignment_of, read_scalar}
-use Rattle.wire_def.specs.Lone.{read_lone}
 use Rattle.wire_def.specs.Described.{allowed}
 use Rattle.wire_def.specs.Arrays.{counted, is_some, less_one, may_stand, read_count, read_ended, read_head, read_octet, read_zeros, read_element, read_tail, read_array}
 use Rattle.wire_def.proofs.Words.{own_of, octet_at}
-use Rattle.wire_def.specs.Orders.{width_in, loaded}
+use Rattle.wire_def.specs.Orders.{loaded}
 use Rattle.cast_stub.specs.declared.recv.Get.TheVariants as get
 use Rattle.cast_stub.specs.RecvBlock.{Recv, finish, skip_any, each}
 use Rattle.cast_stub.specs.RecvAppend.{append}
 use Rattle.cast_stub.specs.Draft.{Draft, raw, digit, lined, done}
-use Rattle.cast_stub.specs.Fill.{settled_number, runs, fill_each, fill_row, Callees, fill, all_got}
-use Rattle.cast_stub.specs.Into.{passed, same_octets, scalar_into, length_of, length_into, count_into, allows, word_at}
+use Rattle.cast_stub.specs.Fill.{settled_number, runs, Callees, fill, all_got}
+use Rattle.cast_stub.specs.Into.{passed, same_octets, scalar_into, length_into, count_into, allows}
 use Rattle.cast_stub.specs.Runs.{Place, Run, gives, refuses, strays, Filler, then_run, if_passed}
 use Rattle.cast_stub.specs.Layouts.{order_of, scalar_width, is_free}
-use Rattle.stub_lower.specs.RecvCodes.{aligned, take_code, number_take, gapped_turn, count_code, row_code, end_code, array_code}
+use Rattle.stub_lower.specs.RecvCodes.{aligned, take_code, number_take, gapped_turn, count_code, row_code, end_code}
 use Rattle.stub_lower.proofs.Words.{width_same}
 use Rattle.stub_lower.proofs.Cdr.{no_gap_after, still_none}
 use Rattle.stub_lower.proofs.Agreeing.{Agrees, Same, Settles, agrees-then, agrees-wider, agrees-ends, agrees-runs, SameEnds, ends-same, ends-map, ends-then}
-use Rattle.stub_lower.proofs.RecvEncoded.{tested_place, passed_place, pass_tested, le_true, octets_dropped, same_true, Reads, reads-wider, taken, After, LonesRead}
-use Rattle.stub_lower.proofs.RecvArrays.{ArraysRead, Opens, read_body, read_whole, array-reads, count-opens, numbers-agree, number-agrees, octets-agree, IsOctetArray, letter_passes, octet_passes}
+use Rattle.stub_lower.proofs.RecvEncoded.{tested_place, passed_place, pass_tested, le_true, octets_dropped, same_true, reads-wider, taken, After, LonesRead}
+use Rattle.stub_lower.proofs.RecvArrays.{ArraysRead, Opens, read_body, read_whole, array-reads, count-opens, numbers-agree, number-agrees, octets-agree, letter_passes, octet_passes}
 use Rattle.stub_lower.proofs.UnitLaws.{along}
 use Rattle.stub_lower.proofs.RecvCdr.{Skips, aligned_run, scalar_split, aligned-scalar, big_scalar, little_scalar}
 

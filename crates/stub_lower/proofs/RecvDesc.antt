@@ -1,23 +1,22 @@
 -- What the descriptors of rows and texts of Mach messages read.
-use Rattle.std.proofs.Common.{◌≡◌, ◌⊎◌, inl, inr, ℕ, zero, suc, ◌+◌, ◌-◌, ◌*◌, ◌/◌, ◌%◌, ◌^◌, ◌<◌, ◌≤◌, ℤ, List, [], ◌∷◌, length, take, drop, max, Option, Some, None, refl, sym, ap, subst, ◌∙◌, arith, Bool, true, false, ◌&&◌, if◌then◌else◌}
+use Rattle.std.proofs.Common.{◌≡◌, ◌⊎◌, inl, inr, ℕ, ◌+◌, ◌-◌, ◌*◌, ◌/◌, ◌%◌, ◌^◌, ◌<◌, ◌≤◌, List, [], ◌∷◌, length, take, drop, Option, Some, None, refl, sym, ap, subst, ◌∙◌, arith, Bool, true, false, ◌&&◌, if◌then◌else◌}
 use Rattle.std.specs.Prelude.{nat_lt, nat_le, nat_eq}
-use Rattle.std.specs.Int.{Width, w16, w32, w64, from_le_bytes}
+use Rattle.std.specs.Int.{w16, w32, w64, from_le_bytes}
 use Rattle.std.proofs.lemmas.Bool.{lt-ltb, le-ltb, ltb-true, ltb-false, le-leb, lt-leb, eq-eqb, ne_eqb, eqb-true, eqb-false}
 use Rattle.std.proofs.lemmas.List.{length-drop, drop-drop}
 use Rattle.kit_base.specs.Bytes.{le}
-use Rattle.mint.specs.declared.kind.Kind.TheVariants as kind
 use Rattle.mint.specs.declared.kind.Count.{Count}
 use Rattle.mint.specs.declared.kind.Count.TheVariants.{Exactly, AtMost, Any}
-use Rattle.mint.specs.Types.{Scalar, number, label}
+use Rattle.mint.specs.Types.{Scalar}
 use Rattle.wire_def.specs.declared.encoding.Encoding.TheVariants.{Mach}
 use Rattle.wire_def.specs.declared.fault.FaultKind.{FaultKind}
 use Rattle.wire_def.specs.declared.fault.FaultKind.TheVariants.{Short, BadItem, OverBound}
-use Rattle.wire_def.specs.Grammar.{Reading, got, stop, Reader, AreOctets, then_on, map_got, tested, both}
+use Rattle.wire_def.specs.Grammar.{Reading, got, stop, AreOctets, then_on, map_got}
 use Rattle.wire_def.specs.Scalars.{gap, read_word}
 use Rattle.wire_def.specs.Lone.{unit_name, unit_bits, units_of, short_word}
 use Rattle.wire_def.specs.Described.{allowed, is_marked, takes, has_form, long_words, widened, is_whole, elements_in, is_fixed, is_right, reported_before, read_first, read_rest, read_described}
 use Rattle.cast_stub.specs.Into.{same_octets, length_of, allows, little}
-use Rattle.stub_lower.proofs.Agreeing.{SameEnds, ends-same, ends-map, ends-then}
+use Rattle.stub_lower.proofs.Agreeing.{SameEnds}
 use Rattle.stub_lower.proofs.RecvEncoded.{same_true}
 use Rattle.stub_lower.proofs.RecvItems.{word_is, word_read}
 use Rattle.stub_lower.proofs.UnitLaws.{Units, single, twice, units, elements_back, elements_are, name_small, bits_small}

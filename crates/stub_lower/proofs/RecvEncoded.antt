@@ -1,9 +1,8 @@
 -- What an encoding's leaves read: a scalar, a count.
-use Rattle.std.proofs.Common.{◌≡◌, ℕ, zero, suc, ◌+◌, ◌-◌, ◌*◌, ◌/◌, ◌%◌, ◌<◌, ◌≤◌, ℤ, pos, List, [], ◌∷◌, length, take, drop, get_or, max, Option, Some, None, refl, sym, ap, subst, ◌∙◌, arith, Bool, true, false, ◌&&◌, if◌then◌else◌}
+use Rattle.std.proofs.Common.{◌≡◌, ℕ, zero, suc, ◌+◌, ◌-◌, ◌*◌, ◌/◌, ◌%◌, ◌≤◌, ℤ, List, [], ◌∷◌, length, take, drop, max, Option, Some, None, refl, sym, ap, subst, ◌∙◌, arith, Bool, true, false, ◌&&◌, if◌then◌else◌}
 use Rattle.std.specs.Prelude.{nat_lt, nat_le, nat_eq}
-use Rattle.std.specs.Int.{Width, w8, w16, w32, w64, byte_len, from_be_bytes, from_le_bytes}
-use Rattle.std.proofs.lemmas.Bool.{le-leb, eq-eqb, lt-ltb, le-ltb, ltb-true, ltb-false}
-use Rattle.std.proofs.lemmas.List.{length-drop, drop-drop}
+use Rattle.std.specs.Int.{Width, byte_len}
+use Rattle.std.proofs.lemmas.Bool.{le-leb, eq-eqb}
 use Rattle.kit_base.specs.Causes.{raised}
 use Rattle.mint.specs.declared.kind.Count.{Count}
 use Rattle.mint.specs.declared.kind.Count.TheVariants.{Exactly, AtMost, Any}
@@ -14,28 +13,25 @@ use Rattle.wire_def.specs.declared.encoding.Encoding.TheVariants.{Xdr, CdrBig, C
 use Rattle.wire_def.specs.declared.fault.FaultKind.{FaultKind}
 use Rattle.wire_def.specs.declared.fault.FaultKind.TheVariants.{Short, BadValue, OverBound}
 use Rattle.wire_def.specs.declared.head.Order.{Order}
-use Rattle.wire_def.specs.declared.head.Order.TheVariants.{Big, Little}
-use Rattle.wire_def.specs.Grammar.{Reading, got, stop, Reader, AreOctets, then_on, map_got}
+use Rattle.wire_def.specs.Grammar.{Reading, got, stop, AreOctets, then_on, map_got}
 use Rattle.wire_def.specs.Places.{IsPlace}
 use Rattle.wire_def.specs.Scalars.{gap, own_width, at_least_32, scalar_place, is_signed, number_of, width_of, alignment_of, octets_number, read_word, read_scalar}
 use Rattle.wire_def.specs.Lone.{lone_place, read_lone}
 use Rattle.wire_def.specs.Arrays.{counted, natural, read_count}
-use Rattle.wire_def.proofs.Words.{IsOwn, is8, is16, is32, is64, own_of, octet_at}
+use Rattle.wire_def.proofs.Words.{IsOwn, is8, is16, is32, is64, own_of}
 use Rattle.wire_def.specs.Orders.{width_in, loaded}
 use Rattle.cast_stub.specs.declared.recv.Get.{Get}
-use Rattle.cast_stub.specs.declared.recv.Get.TheVariants as get
-use Rattle.cast_stub.specs.RecvBlock.{Recv, finish, need, skip_any, pass}
+use Rattle.cast_stub.specs.RecvBlock.{finish, pass}
 use Rattle.cast_stub.specs.Draft.{Draft}
 use Rattle.cast_stub.specs.Fill as filling
 use Rattle.cast_stub.specs.Fill.{all_got, Callees, fill}
-use Rattle.cast_stub.specs.Into.{passed, skipped, word_at, scalar_into, length_of, length_into, count_into, allows}
+use Rattle.cast_stub.specs.Into.{passed, word_at, scalar_into, length_of, length_into, count_into, allows}
 use Rattle.cast_stub.specs.Runs.{Place, Run, gives, refuses, strays, then_run, map_run, if_passed}
-use Rattle.cast_stub.specs.Steps.{is_width}
 use Rattle.cast_stub.specs.Layouts.{order_of, scalar_width}
 use Rattle.stub_lower.specs.Items.{number_at}
-use Rattle.stub_lower.specs.RecvCodes.{aligned, take_code, scalar_code, count_code, length_get}
+use Rattle.stub_lower.specs.RecvCodes.{take_code, scalar_code, count_code, length_get}
 use Rattle.stub_lower.proofs.Words.{width_same}
-use Rattle.stub_lower.proofs.Agreeing.{Agrees, Same, agrees-then, agrees-map, agrees-read, agrees-wider, agrees-ends, SameEnds, ends-same, ends-map, ends-then}
+use Rattle.stub_lower.proofs.Agreeing.{Agrees, Same, agrees-then, agrees-map, agrees-read, agrees-wider}
 
 -- ---- octets that are tested and passed
 

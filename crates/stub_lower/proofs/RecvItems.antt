@@ -1,8 +1,8 @@
 -- What an item of a Mach message reads.
-use Rattle.std.proofs.Common.{◌≡◌, ℕ, zero, suc, ◌+◌, ◌-◌, ◌*◌, ◌%◌, ◌<◌, ◌≤◌, ℤ, List, [], ◌∷◌, length, take, drop, max, Option, Some, None, refl, sym, ap, subst, ◌∙◌, arith, Bool, true, false, ◌&&◌, if◌then◌else◌}
+use Rattle.std.proofs.Common.{◌≡◌, ℕ, zero, suc, ◌+◌, ◌%◌, ◌<◌, ◌≤◌, ℤ, List, [], ◌∷◌, length, take, drop, max, Option, Some, None, refl, sym, ap, ◌∙◌, arith, Bool, true, false, ◌&&◌, if◌then◌else◌}
 use Rattle.std.specs.Prelude.{nat_lt, nat_le, nat_eq}
 use Rattle.std.specs.Int.{Width, w32, byte_len, from_le_bytes}
-use Rattle.std.proofs.lemmas.Bool.{lt-ltb, le-ltb, ltb-true, ltb-false, eq-eqb, eqb-true}
+use Rattle.std.proofs.lemmas.Bool.{le-ltb, ltb-true, ltb-false, eq-eqb, eqb-true}
 use Rattle.std.proofs.lemmas.List.{length-drop, length-take, drop-drop}
 use Rattle.kit_base.specs.Bytes.{le}
 use Rattle.mint.specs.declared.kind.Kind.TheVariants as kind
@@ -12,7 +12,7 @@ use Rattle.wire_def.specs.declared.encoding.Encoding.TheVariants.{Mach}
 use Rattle.wire_def.specs.declared.fault.FaultKind.{FaultKind}
 use Rattle.wire_def.specs.declared.fault.FaultKind.TheVariants.{Short, BadValue, BadItem}
 use Rattle.wire_def.specs.declared.head.Order.TheVariants.{Little}
-use Rattle.wire_def.specs.Grammar.{Reading, got, stop, Reader, AreOctets, then_on, map_got}
+use Rattle.wire_def.specs.Grammar.{Reading, got, stop, AreOctets, then_on, map_got}
 use Rattle.wire_def.specs.Places.{IsPlace}
 use Rattle.wire_def.specs.Scalars.{gap, scalar_place, is_signed, number_of, width_of, read_word, read_scalar}
 use Rattle.wire_def.specs.Lone.{scalar_word, filling, read_any, read_desc, read_lone}

@@ -1,9 +1,8 @@
 -- What the code of a row or text reads in a Mach message.
-use Rattle.std.proofs.Common.{◌≡◌, ℕ, zero, suc, ◌+◌, ◌-◌, ◌*◌, ◌/◌, ◌%◌, ◌^◌, ◌<◌, ◌≤◌, ℤ, List, [], ◌∷◌, length, take, drop, max, Option, Some, None, refl, sym, ap, subst, ◌∙◌, arith, zero-mul, Bool, true, false, ◌&&◌, if◌then◌else◌}
+use Rattle.std.proofs.Common.{◌≡◌, ℕ, ◌+◌, ◌-◌, ◌*◌, ◌/◌, ◌%◌, ◌^◌, ◌≤◌, ℤ, List, [], length, take, drop, max, Option, Some, None, refl, sym, ap, subst, ◌∙◌, arith, Bool, true, false, ◌&&◌, if◌then◌else◌}
 use Rattle.std.specs.Prelude.{nat_lt, nat_le, nat_eq}
 use Rattle.std.specs.Int.{w16, w32}
 use Rattle.std.proofs.lemmas.Bool.{ltb-false, le-ltb}
-use Rattle.std.proofs.Math.Nat.{suc-mul}
 use Rattle.kit_base.specs.Bytes.{le}
 use Rattle.mint.specs.declared.kind.Kind.{Kind}
 use Rattle.mint.specs.declared.kind.Kind.TheVariants as kind
@@ -11,13 +10,13 @@ use Rattle.mint.specs.declared.kind.Count.{Count}
 use Rattle.mint.specs.declared.kind.Count.TheVariants.{Exactly, AtMost, Any}
 use Rattle.mint.specs.Blank.{least}
 use Rattle.mint.specs.Types.{Scalar, number, Array, text, row_of, array_type}
-use Rattle.mint.specs.Values.{Val, row}
+use Rattle.mint.specs.Values.{row}
 use Rattle.wire_def.specs.declared.encoding.Encoding.TheVariants.{Mach}
 use Rattle.wire_def.specs.declared.fault.FaultKind.{FaultKind}
 use Rattle.wire_def.specs.declared.fault.FaultKind.TheVariants.{Short, BadText, BadItem, OverBound}
-use Rattle.wire_def.specs.Grammar.{Reading, got, stop, Reader, AreOctets, map_got, times}
+use Rattle.wire_def.specs.Grammar.{got, stop, Reader, AreOctets, map_got, times}
 use Rattle.wire_def.specs.Places.{IsPlace}
-use Rattle.wire_def.specs.Scalars.{gap, width_of, read_scalar}
+use Rattle.wire_def.specs.Scalars.{gap, read_scalar}
 use Rattle.wire_def.specs.Lone.{unit_name, unit_bits, units_of, read_any}
 use Rattle.wire_def.specs.Described.{is_marked, is_long, read_described}
 use Rattle.wire_def.specs.Arrays.{count_of, kind_of, may_stand, read_octet, read_head, read_element, read_tail, read_array}
@@ -25,12 +24,12 @@ use Rattle.cast_stub.specs.declared.recv.Get.TheVariants as get
 use Rattle.cast_stub.specs.RecvBlock.{Recv, finish, skip_any, each}
 use Rattle.cast_stub.specs.RecvAppend.{append}
 use Rattle.cast_stub.specs.Draft.{Draft, raw, digit, lined}
-use Rattle.cast_stub.specs.Fill.{settled_number, runs, fill_each, fill_row, Callees, fill, all_got}
+use Rattle.cast_stub.specs.Fill.{settled_number, runs, fill_row, Callees, fill, all_got}
 use Rattle.cast_stub.specs.Into.{passed, same_octets, length_of, allows, little, units_into, short_into, long_into, form_into, desc_into}
 use Rattle.cast_stub.specs.Runs.{Place, Run, gives, refuses, strays, Filler, then_run, if_passed}
 use Rattle.cast_stub.specs.Layouts.{scalar_width}
-use Rattle.stub_lower.specs.RecvCodes.{take_code, number_take, fixed_code, free_code, described_code, filling_code, array_code}
-use Rattle.stub_lower.proofs.Agreeing.{Agrees, Same, Settles, agrees-finish, agrees-wider, agrees-ends, SameEnds, ends-same}
+use Rattle.stub_lower.specs.RecvCodes.{take_code, number_take, fixed_code, free_code, described_code, filling_code}
+use Rattle.stub_lower.proofs.Agreeing.{Agrees, Same, Settles, agrees-finish, agrees-wider, agrees-ends, ends-same}
 use Rattle.stub_lower.proofs.RecvEncoded.{tested_place, passed_place, pass_tested, le_true, octets_dropped}
 use Rattle.stub_lower.proofs.RecvArrays.{ArraysRead, Opens, read_whole, array-reads, numbers-agree, octets-agree, IsOctetArray, letter_passes, octet_passes}
 use Rattle.stub_lower.proofs.UnitLaws.{along, along_words, along_times}

@@ -9,7 +9,7 @@ use Rattle.mint.specs.Types.{Scalar, number, label, Array, text, row_of, scalar_
 use Rattle.wire_def.specs.declared.encoding.Encoding.{Encoding}
 use Rattle.wire_def.specs.declared.encoding.Encoding.TheVariants.{Xdr, CdrBig, CdrLittle, Mach}
 use Rattle.wire_def.specs.declared.head.Order.TheVariants.{Little}
-use Rattle.wire_def.specs.Lone.{unit_name, unit_bits, units_of, scalar_word}
+use Rattle.wire_def.specs.Lone.{unit_name, unit_bits, units_of, scalar_word, filling}
 use Rattle.wire_def.specs.Described.{is_long, long_mark, long_words}
 use Rattle.wire_def.specs.Arrays.{counted, count_of, kind_of, is_octets}
 use Rattle.wire_def.specs.Send.{flag}
@@ -28,13 +28,13 @@ use Rattle.stub_lower.specs.Items.{number_at, item_rest}
 abbrev pub aligned : ℕ → Block → Block
 aligned w b = if nat_eq w 1 then b else align w b
 
--- the octets of an item, 0 where its number is to be
-abbrev pub item_octets : Scalar → List ℕ
-item_octets s = le 4 (scalar_word s) ++ replicate (item_rest s) 0
+-- the puts that fill an item up after its number: zeros, where there are to be any
+abbrev pub filling_puts : Scalar → List Put
+filling_puts s = if nat_eq (filling s) 0 then [] else put.Const (4 + scalar_width Mach s) (replicate (filling s) 0) ∷ []
 
--- an item, given the put of its number, which comes over its zeros
+-- an item, given the put of its number: its descriptor, the number, and what fills it up
 abbrev pub item_code : Scalar → Put → Block
-item_code s x = chunk (4 + item_rest s) (put.Const 0 (item_octets s) ∷ x ∷ []) stop
+item_code s x = chunk (4 + item_rest s) (put.Const 0 (le 4 (scalar_word s)) ∷ x ∷ filling_puts s) stop
 
 -- a scalar by itself, given the put of its number; over CDR after its alignment
 abbrev pub scalar_code : Encoding → Scalar → Put → Block

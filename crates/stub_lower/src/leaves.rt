@@ -1,18 +1,19 @@
 //! What an encoding gives: how a number, a count and the elements of an array are sent.
 
-ghost use Rattle.std.specs.Prelude.{◌≡◌, [], ◌∷◌, OnOk, IfOk};
+ghost use Rattle.std.specs.Prelude.{◌≡◌, [], ◌∷◌, ◌++◌, OnOk, IfOk};
 ghost use Rattle.mint.specs.Types.{number, text, row_of};
 ghost use Rattle.cast_stub.specs.Append.{append};
 ghost use Rattle.cast_stub.specs.Block.{stop, chunk, each, code_seen};
 ghost use Rattle.cast_stub.specs.Layouts.{order_of, element_width, is_gapped};
+ghost use Rattle.cast_stub.specs.declared.put.Put.TheVariants as put;
 ghost use Rattle.mint.specs.declared.kind.Count.{Count};
-ghost use Rattle.stub_lower.specs.Codes.{aligned, array_code, count_code, described_code, end_code, ended_code, filling_code, gapped_turn, item_code, item_octets, length_put, long_code, number_code, row_code, scalar_code, short_code};
+ghost use Rattle.stub_lower.specs.Codes.{aligned, array_code, count_code, described_code, end_code, ended_code, filling_code, filling_puts, gapped_turn, item_code, length_put, long_code, number_code, row_code, scalar_code, short_code};
 
 use crate::ops::{add_chunk, add_pair};
 use crate::units::{item_octets, long_octets, number_at, rest_of};
 use cast_stub::copying::add;
 use cast_stub::layouts::{order_of, width_of};
-use cast_stub::{Path, Put, SendOp, SendOps};
+use cast_stub::{Path, Put, Puts, SendOp, SendOps};
 use kit_base::{NoMemory, Octets};
 use mint::kind::{Count, Kind};
 use std::alloc::Global;
@@ -45,16 +46,24 @@ fn add_aligned(alloc: Global, width: u32, put: Put, out: &mut SendOps) -> Result
     }
 }
 
-/// The octets of an item, 0 where its number is to be.
-fn blank_item(alloc: Global, kind: Kind) -> Result<Octets, NoMemory>
-    ensures { IfOk result (λ o. o ≡ item_octets (number kind)) }
+/// Puts zeros at an offset after the last put.
+fn add_zeros(alloc: Global, at: u32, zeros: &[u8], puts: &mut Puts) -> Result<(), NoMemory>
+    ensures { OnOk result (puts.new ≡ puts.old ++ (put.Const at zeros.now ∷ [])) }
 {
-    let mut octets = item_octets(alloc, kind)?;
+    let mut octets = Octets::new(alloc);
+    octets.append(zeros)?;
+    puts.push(Put::Const(at, octets))
+}
+
+/// Puts what fills an item of a Mach message up after its number.
+fn add_fill(alloc: Global, kind: Kind, puts: &mut Puts) -> Result<(), NoMemory>
+    ensures { OnOk result (puts.new ≡ puts.old ++ filling_puts (number kind)) }
+{
     match kind {
-        Kind::I64 | Kind::U64 => octets.append(&[0; 8])?,
-        _ => octets.append(&[0; 4])?,
+        Kind::Octet | Kind::I8 | Kind::U8 | Kind::Char => add_zeros(alloc, 5, &[0; 3], puts),
+        Kind::I16 | Kind::U16 => add_zeros(alloc, 6, &[0; 2], puts),
+        _ => Ok(()),
     }
-    Ok(octets)
 }
 
 /// Puts the code of an item of a Mach message; the put is that of its number.
@@ -62,8 +71,11 @@ fn blank_item(alloc: Global, kind: Kind) -> Result<Octets, NoMemory>
 fn add_item(alloc: Global, kind: Kind, put: Put, out: &mut SendOps) -> Result<(), NoMemory>
     ensures { OnOk result (code_seen out.new ≡ append (code_seen out.old) (item_code (number kind) put)) }
 {
-    let blank = Put::Const(0, blank_item(alloc, kind)?);
-    add_pair(alloc, 4 + rest_of(kind), blank, put, out)
+    let mut puts = Puts::new(alloc);
+    puts.push(Put::Const(0, item_octets(alloc, kind)?))?;
+    puts.push(put)?;
+    add_fill(alloc, kind, &mut puts)?;
+    add(out, SendOp::Chunk(4 + rest_of(kind), puts))
 }
 
 /// Puts the code of a scalar by itself after the last operation; the put is that of its number.

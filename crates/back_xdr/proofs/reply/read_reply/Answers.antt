@@ -6,8 +6,10 @@ use Rattle.back_xdr.proofs.reply.read_reply.Goals as goal
 
 pub returns-clause-spells : goal.returns-clause-spells
 returns-clause-spells c =
-    rw c.reply_at.ensures (reported_head (format reply) (heads_are_read reply) reply_reported c.args.message.now c.are_octets.ensures)
+    rw c.reply_at.ensures (reported_head (format (reply c.args.arms)) (heads_are_read (reply c.args.arms)) reply_reported
+    c.args.message.now c.are_octets.ensures)
 
 pub returns-clause-stops : goal.returns-clause-stops
 returns-clause-stops c =
-    rw c.reply_at.ensures (reported_fault (format reply) (heads_are_read reply) reply_reported c.args.message.now c.are_octets.ensures)
+    rw c.reply_at.ensures (reported_fault (format (reply c.args.arms)) (heads_are_read (reply c.args.arms)) reply_reported
+    c.args.message.now c.are_octets.ensures)

@@ -1,0 +1,5 @@
+use Rattle.back_xdr.proofs.Sent.{replies_read}
+use Rattle.back_xdr.proofs.laws.replies_are_read.Goals as goal
+
+pub returns : goal.returns
+returns c = replies_read

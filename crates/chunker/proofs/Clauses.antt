@@ -1,0 +1,253 @@
+-- What is promised of chunked code, from what it is.
+use Rattle.std.proofs.Common.{◌≡◌, ℕ, zero, suc, ◌+◌, ◌%◌, ◌<◌, ◌≤◌, List, [], ◌∷◌, map, length, slice_get, Option, Some, None, option_map, IfSome, refl, sym, ap, ◌∙◌, subst, arith}
+use Rattle.std.proofs.lemmas.Option.{slice_get-map}
+use Rattle.std.proofs.Math.Path.{fun_ext}
+use Rattle.mint.specs.Values.{Val}
+use Rattle.wire_def.specs.declared.head.Head.{Head}
+use Rattle.cast_stub.specs.declared.send.SendCode.{SendCode}
+use Rattle.cast_stub.specs.declared.send.SendOp.{SendOp}
+use Rattle.cast_stub.specs.Block.{Block, code_seen}
+use Rattle.cast_stub.specs.Entered.{of_some, entered, entered_by}
+use Rattle.cast_stub.specs.Meaning.{wrote, costs, AreCovered}
+use Rattle.cast_stub.specs.Parts.{on_some, IsThere}
+use Rattle.cast_stub.specs.Steps.{Step, Room, Pad, Stored, Widened, Copied, Patched, Steps, steps}
+use Rattle.cast_stub.specs.Subs.{called, deepest, sub_at, calls_of, sent_steps}
+use Rattle.chunker.specs.declared.phase.Phase.{Phase}
+use Rattle.chunker.specs.Chunked.{chunked}
+use Rattle.chunker.specs.Contract.{IsChunked}
+use Rattle.cast_stub.specs.KeptAt.{Wherever, SendsAsAt, IsCoveredAsAt, ChecksAs, CallsAs, RowsAs, StoresWithin, MovesWithin, KeepsOthers, EachCode, RunsAreShort}
+use Rattle.cast_stub.specs.Met.{met, others, rows_in, moves_in, moves_by, moves_allowed}
+use Rattle.cast_stub.specs.Met as met_in
+use Rattle.chunker.specs.Phases.{IsPhase, AtPhase, unknown}
+use Rattle.cast_stub.specs.Skeletons.{skeleton, IsRunShort}
+use Rattle.chunker.proofs.Chunking.{begins}
+use Rattle.chunker.proofs.Keeping.{Keeps, Becomes, becomes_at}
+use Rattle.chunker.proofs.Known.{Wide, one, two, four, eight, anywhere, wide_is}
+use Rattle.chunker.proofs.Moves.{Few, moves_few, in_chunked}
+use Rattle.chunker.proofs.Shortness.{fresh}
+use Rattle.chunker.proofs.Skeleton.{bare, same_calls}
+
+rest_at : (m r : ℕ) → Wide m → r < m → r % m ≡ r
+rest_at _ r one lt = omega (arith, lt)
+rest_at _ r two lt = omega (arith, lt)
+rest_at _ r four lt = omega (arith, lt)
+rest_at _ r eight lt = omega (arith, lt)
+
+checks_of : (ss : List Step) → (costs (others ss)).checks ≡ (costs ss).checks
+checks_of [] = refl
+checks_of (Room n ∷ ss) = omega (arith, checks_of ss)
+checks_of (Pad a ∷ ss) = omega (arith, checks_of ss)
+checks_of (Stored os k ∷ ss) = omega (arith, checks_of ss)
+checks_of (Widened os k ∷ ss) = omega (arith, checks_of ss)
+checks_of (Copied os ∷ ss) = omega (arith, checks_of ss)
+checks_of (Patched at sub order ∷ ss) = omega (arith, checks_of ss)
+
+rows_of : (ss : List Step) → rows_in (others ss) ≡ rows_in ss
+rows_of [] = refl
+rows_of (Room n ∷ ss) = rows_of ss
+rows_of (Pad a ∷ ss) = rows_of ss
+rows_of (Stored os k ∷ ss) = rows_of ss
+rows_of (Widened os k ∷ ss) = ap (λ (l : List Step). Widened os k ∷ l) (rows_of ss)
+rows_of (Copied os ∷ ss) = ap (λ (l : List Step). Copied os ∷ l) (rows_of ss)
+rows_of (Patched at sub order ∷ ss) = rows_of ss
+
+-- ---- the codes that calls name
+
+abbrev chunked_sub : List SendOp → Block
+chunked_sub s = chunked unknown 0 [] (code_seen s)
+
+same_subs : (xs ys : List (List SendOp)) → map code_seen xs ≡ map chunked_sub ys
+    → map (λ (s : List SendOp). skeleton (code_seen s)) xs ≡ map (λ (s : List SendOp). skeleton (code_seen s)) ys
+same_subs [] [] e = refl
+same_subs [] (y ∷ ys) e = absurd cc
+same_subs (x ∷ xs) [] e = absurd cc
+same_subs (x ∷ xs) (y ∷ ys) e =
+    let first : code_seen x ≡ chunked_sub y = cc in
+    let rest : map code_seen xs ≡ map chunked_sub ys = cc in
+    ap (λ (b : Block). b ∷ map (λ (s : List SendOp). skeleton (code_seen s)) xs) (ap skeleton first ∙ bare (code_seen y) unknown 0 [])
+    ∙ ap (λ (l : List Block). skeleton (code_seen y) ∷ l) (same_subs xs ys rest)
+
+short_subs : (xs ys : List (List SendOp)) → map code_seen xs ≡ map chunked_sub ys → EachCode (IsRunShort 7) xs
+short_subs [] ys e = tt
+short_subs (x ∷ xs) [] e = absurd cc
+short_subs (x ∷ xs) (y ∷ ys) e =
+    let first : code_seen x ≡ chunked_sub y = cc in
+    let rest : map code_seen xs ≡ map chunked_sub ys = cc in
+    (subst (IsRunShort 7) (sym first) (fresh (code_seen y) unknown one), short_subs xs ys rest)
+
+made_sub : (o : Option (List SendOp)) → option_map (λ (s : List SendOp). chunked unknown 0 [] (code_seen s)) o
+    ≡ option_map (chunked unknown 0 []) (option_map code_seen o)
+made_sub None = refl
+made_sub (Some s) = refl
+
+-- the code at a place
+sub_made : (phase : Phase) (given code : SendCode) → IsChunked phase given code → (k : ℕ)
+    → sub_at code.subs k ≡ option_map (chunked unknown 0 []) (sub_at given.subs k)
+sub_made phase given code is k =
+    sym (slice_get-map code_seen code.subs k) ∙ ap (λ (l : List Block). slice_get l k) is.subs
+    ∙ slice_get-map (λ (s : List SendOp). chunked unknown 0 [] (code_seen s)) given.subs k ∙ made_sub (slice_get given.subs k)
+
+module _ (phase : Phase) (given code : SendCode) (is : IsChunked phase given code) where
+  one_call : (h : Head) (n : ℕ) (A : ℕ → Type 0) (w : Val) (o : Option Block)
+      → ((j : ℕ) (B : ℕ → Type 0) (u : Val) → Becomes B (called (sub_at given.subs) h n j u) (called (sub_at code.subs) h n j u))
+      → Becomes A (on_some o (λ b. steps (called (sub_at given.subs) h n) h b w))
+      (on_some (option_map (chunked unknown 0 []) o) (λ b. steps (called (sub_at code.subs) h n) h b w))
+  one_call h n A w None f = λ ss e. absurd cc
+  one_call h n A w (Some b) f =
+      becomes_at (AtPhase unknown) A (steps (called (sub_at given.subs) h n) h b w)
+      (steps (called (sub_at code.subs) h n) h (chunked unknown 0 [] b) w) (λ p a. anywhere p)
+      (begins h (called (sub_at given.subs) h n) (called (sub_at code.subs) h n) f b w unknown)
+
+  calls_become : (h : Head) (n k : ℕ) (A : ℕ → Type 0) (w : Val)
+      → Becomes A (called (sub_at given.subs) h n k w) (called (sub_at code.subs) h n k w)
+  calls_become h zero k A w = λ ss e. absurd cc
+  calls_become h (suc n) k A w =
+      subst (λ (o : Option Block). Becomes A (on_some (sub_at given.subs k) (λ b. steps (called (sub_at given.subs) h n) h b w))
+      (on_some o (λ b. steps (called (sub_at code.subs) h n) h b w))) (sym (sub_made phase given code is k))
+      (one_call h n A w (sub_at given.subs k) (λ j B u. calls_become h n j B u))
+
+  steps_become : (h : Head) (v : Val) → Becomes (AtPhase phase) (sent_steps given h v) (sent_steps code h v)
+  steps_become h v =
+      subst (λ (b : Block). Becomes (AtPhase phase) (sent_steps given h v) (steps (calls_of code.subs h deepest) h b v)) (sym is.ops)
+      (begins h (calls_of given.subs h deepest) (calls_of code.subs h deepest) (λ k A w. calls_become h deepest k A w)
+      (code_seen given.ops) v
+      phase)
+
+  -- ---- octets and room
+
+  sends_on : (x y : Steps) (p : ℕ) → AtPhase phase p → Becomes (AtPhase phase) x y
+      → IfSome (on_some x (wrote p [])) (λ os. on_some y (wrote p []) ≡ Some os)
+  sends_on None y p a f = tt
+  sends_on (Some ss) y p a f = by_octets (wrote p [] ss) refl where
+    by_octets : (z : Option (List ℕ)) → wrote p [] ss ≡ z → IfSome z (λ os. on_some y (wrote p []) ≡ Some os)
+    by_octets None e = tt
+    by_octets (Some os) e =
+        let t = f ss refl in
+        let start : p + length {A = ℕ} [] ≡ p = omega arith in
+        ap (λ (s : Steps). on_some s (wrote p [])) t.is ∙ (t.keeps p a).octets p [] start os e
+
+  pub sends : SendsAsAt (AtPhase phase) given code
+  sends h v p a = sends_on (sent_steps given h v) (sent_steps code h v) p a (steps_become h v)
+
+  there_on : (z w : Option (List ℕ)) → ((os : List ℕ) → z ≡ Some os → w ≡ Some os) → IsThere z → IsThere w
+  there_on None w f h = absurd h
+  there_on (Some os) w f h = subst IsThere (sym (f os refl)) tt
+
+  covered_on : (x y : Steps) (p : ℕ) → AtPhase phase p → Becomes (AtPhase phase) x y → AreCovered x p → AreCovered y p
+  covered_on None y p a f h = absurd h
+  covered_on (Some ss) y p a f h =
+      let t = f ss refl in
+      let k = t.keeps p a in
+      let start : p + length {A = ℕ} [] ≡ p = omega arith in
+      subst (λ (s : Steps). AreCovered s p) (sym t.is)
+      (there_on (wrote p [] ss) (wrote p [] t.made) (λ os e. k.octets p [] start os e) h.0, k.room 0 h.1)
+
+  pub covered : IsCoveredAsAt (AtPhase phase) given code
+  covered h v p a c = covered_on (sent_steps given h v) (sent_steps code h v) p a (steps_become h v) c
+
+  -- ---- what does not depend on the position
+
+  at_rest : IsPhase phase → AtPhase phase phase.r
+  at_rest i = rest_at phase.m phase.r (wide_is phase.m i.multiple) i.rest
+
+  wherever_on : (x y : Steps) (P : List Step → List Step → Type 0) → IsPhase phase → Becomes (AtPhase phase) x y
+      → ((ss made : List Step) → Keeps phase.r ss made → P ss made)
+      → Wherever x y P
+  wherever_on None y P i f g = tt
+  wherever_on (Some ss) y P i f g =
+      let t = f ss refl in
+      subst (λ (s : Steps). Wherever (Some ss) s P) (sym t.is) (g ss t.made (t.keeps phase.r (at_rest i)))
+
+  pub checks : IsPhase phase → ChecksAs given code
+  checks i h v =
+      wherever_on (sent_steps given h v) (sent_steps code h v) (λ a b. (costs b).checks ≡ (costs a).checks) i (steps_become h v)
+      (λ ss made k. sym (checks_of made) ∙ ap (λ (l : List Step). (costs l).checks) k.rest ∙ checks_of ss)
+
+  pub rows : IsPhase phase → RowsAs given code
+  rows i h v =
+      wherever_on (sent_steps given h v) (sent_steps code h v) (λ a b. rows_in b ≡ rows_in a) i (steps_become h v)
+      (λ ss made k. sym (rows_of made) ∙ ap rows_in k.rest ∙ rows_of ss)
+
+  pub stores : IsPhase phase → StoresWithin given code
+  stores i h v =
+      wherever_on (sent_steps given h v) (sent_steps code h v) (λ a b. (costs b).stores ≤ met a) i (steps_become h v)
+      (λ ss made k. k.stores)
+
+  -- ---- operations
+
+  same_ops : skeleton (code_seen code.ops) ≡ skeleton (code_seen given.ops)
+  same_ops = ap skeleton is.ops ∙ bare (code_seen given.ops) phase 0 []
+
+  pub keeps_others : KeepsOthers given code
+  keeps_others = record { ops = same_ops; subs = same_subs code.subs given.subs is.subs }
+
+  one_entry : (n : ℕ) (v : Val) (o : Option Block) → entered_by (sub_at code.subs) n ≡ entered_by (sub_at given.subs) n
+      → of_some (option_map (chunked unknown 0 []) o) (λ b. entered (entered_by (sub_at code.subs) n) b v)
+      ≡ of_some o (λ b. entered (entered_by (sub_at given.subs) n) b v)
+  one_entry n v None e = refl
+  one_entry n v (Some b) e =
+      same_calls (entered_by (sub_at code.subs) n) (chunked unknown 0 [] b) b v (bare b unknown 0 []) ∙ ap (λ x. entered x b v) e
+
+  entries_same : (n : ℕ) → entered_by (sub_at code.subs) n ≡ entered_by (sub_at given.subs) n
+  entries_same zero = refl
+  entries_same (suc n) = fun_ext (λ k. fun_ext (λ v.
+      ap (λ (o : Option Block). of_some o (λ b. entered (entered_by (sub_at code.subs) n) b v)) (sub_made phase given code is k)
+      ∙ one_entry n v (sub_at given.subs k) (entries_same n)))
+
+  pub calls : CallsAs given code
+  calls v =
+      same_calls (entered_by (sub_at code.subs) deepest) (code_seen code.ops) (code_seen given.ops) v same_ops
+      ∙ ap (λ e. entered e (code_seen given.ops) v) (entries_same deepest)
+
+  pub runs_short : IsPhase phase → RunsAreShort 7 code
+  runs_short i = record {
+    ops = subst (IsRunShort 7) (sym is.ops) (fresh (code_seen given.ops) phase (wide_is phase.m i.multiple));
+    subs = short_subs code.subs given.subs is.subs;
+  }
+
+  -- ---- moves
+
+  one_few : (h : Head) (n : ℕ) (w : Val) (o : Option Block)
+      → ((j : ℕ) (u : Val) → Few (called (sub_at code.subs) h n j u) 0 (moves_by 7 (sub_at code.subs) n j u))
+      → Few (on_some (option_map (chunked unknown 0 []) o) (λ b. steps (called (sub_at code.subs) h n) h b w)) 0
+      (met_in.of_some (option_map (chunked unknown 0 []) o) (λ b. moves_in 7 (moves_by 7 (sub_at code.subs) n) b w))
+  one_few h n w None f = λ ss e. absurd cc
+  one_few h n w (Some b) f =
+      moves_few (called (sub_at code.subs) h n) h (moves_by 7 (sub_at code.subs) n) f (chunked unknown 0 [] b) w 0 (fresh b unknown one)
+
+  calls_few : (h : Head) (n k : ℕ) (w : Val) → Few (called (sub_at code.subs) h n k w) 0 (moves_by 7 (sub_at code.subs) n k w)
+  calls_few h zero k w = λ ss e. absurd cc
+  calls_few h (suc n) k w =
+      subst (λ (o : Option Block). Few (on_some o (λ b. steps (called (sub_at code.subs) h n) h b w)) 0
+      (met_in.of_some o (λ b. moves_in 7 (moves_by 7 (sub_at code.subs) n) b w))) (sym (sub_made phase given code is k))
+      (one_few h n w (sub_at given.subs k) (λ j u. calls_few h n j u))
+
+  one_less : (n : ℕ) (v : Val) (o : Option Block)
+      → ((j : ℕ) (u : Val) → moves_by 7 (sub_at code.subs) n j u ≤ moves_by 7 (sub_at given.subs) n j u)
+      → met_in.of_some (option_map (chunked unknown 0 []) o) (λ b. moves_in 7 (moves_by 7 (sub_at code.subs) n) b v)
+      ≤ met_in.of_some o (λ b. moves_in 7 (moves_by 7 (sub_at given.subs) n) b v)
+  one_less n v None f = omega arith
+  one_less n v (Some b) f = in_chunked (moves_by 7 (sub_at given.subs) n) (moves_by 7 (sub_at code.subs) n) f b unknown v
+
+  calls_less : (n k : ℕ) (v : Val) → moves_by 7 (sub_at code.subs) n k v ≤ moves_by 7 (sub_at given.subs) n k v
+  calls_less zero k v = omega arith
+  calls_less (suc n) k v =
+      subst (λ (o : Option Block). met_in.of_some o (λ b. moves_in 7 (moves_by 7 (sub_at code.subs) n) b v)
+      ≤ moves_by 7 (sub_at given.subs) (suc n) k v) (sym (sub_made phase given code is k))
+      (one_less n v (sub_at given.subs k) (λ j u. calls_less n j u))
+
+  allowed_less : (v : Val) → moves_allowed 7 code v ≤ moves_allowed 7 given v
+  allowed_less v =
+      subst (λ (b : Block). moves_in 7 (moves_by 7 (sub_at code.subs) deepest) b v ≤ moves_allowed 7 given v) (sym is.ops)
+      (in_chunked (moves_by 7 (sub_at given.subs) deepest) (moves_by 7 (sub_at code.subs) deepest) (calls_less deepest)
+      (code_seen given.ops) phase v)
+
+  moves_on : (y : Steps) (n m : ℕ) → Few y 0 n → n ≤ m → IfSome y (λ b. (costs b).moves ≤ m)
+  moves_on None n m few le = tt
+  moves_on (Some b) n m few le = let most = few b refl in omega (arith, most, le)
+
+  pub moves : IsPhase phase → MovesWithin 7 given code
+  moves i h v =
+      moves_on (sent_steps code h v) (moves_allowed 7 code v) (moves_allowed 7 given v)
+      (moves_few (calls_of code.subs h deepest) h (moves_by 7 (sub_at code.subs) deepest) (calls_few h deepest) (code_seen code.ops) v 0
+      (runs_short i).ops) (allowed_less v)

@@ -1,0 +1,24 @@
+-- The proofs, each after those that it uses; * marks those that the proofs of functions use.
+
+-- * Each operation before what follows it
+pub mod Pieces
+-- What is known of positions: after octets, behind padding, and of two phases, by their remainders
+pub mod Known
+-- Chunks that become one: their octets are those of the first and then those of the second, by induction on puts and cells
+pub mod Filled
+-- Where a run of a block ends: at a place of what is left behind it, by induction on the block
+pub mod Ending
+-- Steps in the place of others from a position on: the same octets, no more room, the same steps besides, and no more stores
+pub mod Keeping
+-- Chunked code sends what the given code sends, with the room and the checks that it has, by induction on the block
+pub mod Chunking
+-- Chunked code has every other operation in its place, and runs the calls that the given code runs, by induction on the block
+pub mod Skeleton
+-- In chunked code at most seven chunks and aligns stand together: each align that is kept makes a greater multiple known
+pub mod Shortness
+-- Code whose runs are short moves as often as is allowed for its runs at most; chunked code is allowed no more, by induction on the block
+pub mod Moves
+-- * What is promised of chunked code, from what it is
+pub mod Clauses
+-- * What one more operation makes of the code that is made so far
+pub mod Making

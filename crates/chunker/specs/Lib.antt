@@ -1,0 +1,6 @@
+pub mod Chunked
+pub mod Contract
+pub mod Joins
+pub mod Left
+pub mod Makes
+pub mod Phases

@@ -1,0 +1,150 @@
+//! Puts further on, and constants that stand behind one another as one.
+
+ghost use Rattle.std.specs.Prelude.{◌≡◌, ◌+◌, ◌++◌, List, [], map, OnOk, IfOk};
+ghost use Rattle.cast_stub.specs.declared.put.Put.{Put};
+ghost use Rattle.chunker.specs.Chunked.{moved, zeros, with_const, consts_joined};
+ghost use Rattle.chunker.specs.Joins.{Joins};
+
+use cast_stub::copies::copy_path;
+use cast_stub::copying::copy_octets;
+use cast_stub::{Put, Puts};
+use kit_base::{NoMemory, Octets};
+use std::alloc::Global;
+
+/// So many octets further on.
+fn further(by: u32, off: u32) -> Result<u32, NoMemory>
+    ensures { IfOk result (λ n. n ≡ off + by) }
+{
+    match off.checked_add(by) {
+        Some(n) => Ok(n),
+        None => Err(NoMemory),
+    }
+}
+
+/// The put so many octets further on.
+fn move_put(alloc: Global, by: u32, put: &Put) -> Result<Put, NoMemory>
+    ensures { IfOk result (λ p. p ≡ moved by put.now) }
+{
+    match put {
+        Put::Num(off, path, width, order) => {
+            Ok(Put::Num(further(by, *off)?, copy_path(alloc, path)?, *width, *order))
+        }
+        Put::Tag(off, path, width, order) => {
+            Ok(Put::Tag(further(by, *off)?, copy_path(alloc, path)?, *width, *order))
+        }
+        Put::Flag(off, path, width, order) => {
+            Ok(Put::Flag(further(by, *off)?, copy_path(alloc, path)?, *width, *order))
+        }
+        Put::Count(off, path, factor, summand, width, order) => {
+            Ok(Put::Count(
+                further(by, *off)?,
+                copy_path(alloc, path)?,
+                *factor,
+                *summand,
+                *width,
+                *order,
+            ))
+        }
+        Put::Short(off, path, name, size, factor) => {
+            Ok(Put::Short(
+                further(by, *off)?,
+                copy_path(alloc, path)?,
+                *name,
+                *size,
+                *factor,
+            ))
+        }
+        Put::Const(off, octets) => Ok(Put::Const(further(by, *off)?, copy_octets(alloc, octets)?)),
+        Put::Head(off, field, width, order) => {
+            Ok(Put::Head(further(by, *off)?, *field, *width, *order))
+        }
+    }
+}
+
+/// Puts the puts after those of `out`, so many octets further on.
+pub(crate) fn move_puts(alloc: Global, by: u32, puts: &Puts, out: &mut Puts) -> Result<(), NoMemory>
+    ensures { OnOk result (out.new ≡ out.old ++ map (moved by) puts.now) }
+{
+    for put in puts.as_slice() {
+        out.push(move_put(alloc, by, put)?)?;
+    }
+    Ok(())
+}
+
+/// Puts so many zeros after the puts of `out`.
+pub(crate) fn put_zeros(alloc: Global, at: u32, many: u32, out: &mut Puts) -> Result<(), NoMemory>
+    ensures { OnOk result (out.new ≡ out.old ++ zeros at many) }
+{
+    let mut octets = Octets::new(alloc);
+    for _ in 0..many {
+        octets.push(0)?;
+    }
+    put_const(alloc, at, &octets, out)
+}
+
+/// Puts a constant after the puts of `out`, if it has octets.
+fn put_const(alloc: Global, at: u32, octets: &Octets, out: &mut Puts) -> Result<(), NoMemory>
+    ensures { OnOk result ((r : List Put) → out.old ++ with_const at octets.now r ≡ out.new ++ r) }
+{
+    if octets.len() == 0 {
+        return Ok(());
+    }
+    out.push(Put::Const(at, copy_octets(alloc, octets)?))?;
+    Ok(())
+}
+
+/// Puts that are joined so far, and a constant behind them that may go on.
+#[derive(Drop)]
+pub(crate) struct Joining {
+    /// The puts that are joined.
+    pub out: Puts,
+    /// The place of the constant.
+    pub at: u32,
+    /// Its octets, none where there is no constant.
+    pub octets: Octets,
+}
+
+/// Takes one more put.
+fn join_put(alloc: Global, put: &Put, joining: &mut Joining) -> Result<(), NoMemory>
+    ensures { OnOk result (Joins put.now joining.old joining.new) }
+{
+    match put {
+        Put::Const(off, octets) => {
+            if *off as u128 == joining.at as u128 + joining.octets.len() as u128 {
+                return joining.octets.append(octets.as_slice());
+            }
+            put_const(alloc, joining.at, &joining.octets, &mut joining.out)?;
+            joining.at = *off;
+            joining.octets = copy_octets(alloc, octets)?;
+            Ok(())
+        }
+        Put::Num(_, _, _, _)
+        | Put::Tag(_, _, _, _)
+        | Put::Flag(_, _, _, _)
+        | Put::Count(_, _, _, _, _, _)
+        | Put::Short(_, _, _, _, _)
+        | Put::Head(_, _, _, _) => {
+            put_const(alloc, joining.at, &joining.octets, &mut joining.out)?;
+            joining.out.push(move_put(alloc, 0, put)?)?;
+            joining.at = 0;
+            joining.octets = Octets::new(alloc);
+            Ok(())
+        }
+    }
+}
+
+/// The puts, of which constants that stand behind one another are one.
+pub(crate) fn join_puts(alloc: Global, puts: &Puts) -> Result<Puts, NoMemory>
+    ensures { IfOk result (λ ps. ps ≡ consts_joined 0 [] puts.now) }
+{
+    let mut joining = Joining {
+        out: Puts::new(alloc),
+        at: 0,
+        octets: Octets::new(alloc),
+    };
+    for put in puts.as_slice() {
+        join_put(alloc, put, &mut joining)?;
+    }
+    put_const(alloc, joining.at, &joining.octets, &mut joining.out)?;
+    Ok(joining.out)
+}

@@ -1,0 +1,5 @@
+pub mod Framed
+pub mod First
+pub mod Cut
+pub mod Passed
+pub mod Laws

@@ -1,0 +1,157 @@
+"""Blocks of the pages that are written by hand: what stands between two markers is printed.
+
+<!-- printed: KIND ARGUMENTS --> begins a block, <!-- end of what is printed --> ends it. KIND is
+
+usage     the page that `flick --help` writes
+session   FOLDER WORDS || WORDS..: of the transcript of a folder of examples/, the commands that have these words, run from the top
+octets    FORMAT/FILE:FROM WHAT || WHAT..: rows of vectors/, by what they are of, with their octets from a place on
+refused   the same, of messages that are refused
+crates    the crates of crates.txt, each with the first sentence of its README
+words     WORD, USUAL TERM: CRATE NAME || ..: our words, each with the first sentence of the doc line or comment of its definition
+grammar   onc, corba or mig: the rules by which tests/model reads files of the language
+touched   WHAT = NEIGHBOUR || ..: what may be added, and the files of src/ and specs/ that name a thing like it
+"""
+import functools
+import glob
+import json
+import os
+import re
+
+import sources
+from sources import TOP
+
+BLOCK = re.compile(r"(<!-- printed: (\w+)((?: [^\n]*?)?) -->\n)(.*?)(<!-- end of what is printed -->)", re.S)
+
+
+def content(path):
+    with open(f"{TOP}/{path}", encoding="utf-8") as file:
+        return file.read()
+
+
+def usage(_):
+    text = re.search(r'pub const USAGE: &\[u8\] = b"(.*?)";', content("crates/flick_top/src/saying.rt"), re.S)[1]
+    return ["```", *re.sub(r"\\\n", "", text).replace("\\n", "\n").replace("\\x20", " ").replace('\\"', '"').rstrip("\n").split("\n"), "```"]
+
+
+def from_top(command, folder):
+    """A command of a folder as it is run at the top."""
+    def word(found):
+        path = os.path.normpath(f"{folder}/{found[0]}")
+        return path if os.path.isfile(f"{TOP}/{path}") else "./flick" if found[0] == "flick" else found[0]
+    return re.sub(r"[^\s'|<>;]+", word, command)
+
+
+def session(arguments):
+    folder, _, rest = arguments.partition(" ")
+    commands = re.findall(r"^\$ .*\n(?:(?!\$ ).*\n)*", content(f"{folder}/transcript"), re.M)
+    shown = []
+    for words in rest.split(" || "):
+        found = [each for each in commands if words in each.split("\n")[0]]
+        if not found:
+            raise SystemExit(f"{folder}/transcript has no command with: {words}")
+        first, _, output = found[0].partition("\n")
+        shown += [from_top(first, folder), *output.rstrip("\n").split("\n")]
+    return ["```", *shown, "```"]
+
+
+def rows_of(arguments):
+    """The rows of vectors/ that are named, and where octets begin."""
+    where, _, rest = arguments.partition(" ")
+    where, _, begin = where.partition(":")
+    rows = [json.loads(line) for line in content(f"vectors/{where}.jsonl").splitlines()]
+    for what in rest.split(" || "):
+        file, _, what = what.partition(": ") if ": " in what else ("", "", what)
+        found = [row for row in rows if row["what"] == what and file in row["in"]]
+        if not found:
+            raise SystemExit(f"vectors/{where}.jsonl has no row of: {what}")
+        yield found[0], int(begin or 0)
+
+
+def in_words(digits):
+    return " ".join(re.findall(".{1,8}", digits))
+
+
+def octets(arguments):
+    found = [*rows_of(arguments)]
+    values = (json.dumps(row["record"].get("args", row["record"].get("result")), separators=(",", ":"), ensure_ascii=False) for row, _ in found)
+    lines = [f"| {row['what']} | `{value}` | `{in_words(row['message'][2 * begin:])}` |" for (row, begin), value in zip(found, values)]
+    return ["| Message | JSON | Octets" + (f" from place {found[0][1]} on" if found[0][1] else "") + " |", "|---|---|---|", *lines]
+
+
+def refused(arguments):
+    found = [*rows_of(arguments)]
+    lines = [f"| {row['what']} | `{in_words(row['message'][2 * begin:])}` | `{row['refused']}` |" for row, begin in found]
+    return ["| Message | Octets" + (f" from place {found[0][1]} on" if found[0][1] else "") + " | Fault |", "|---|---|---|", *lines]
+
+
+def crates(_):
+    return ["| Crate | What it is |", "|---|---|", *(f"| `{name}` | {sources.purpose(name).replace('|', chr(92) + '|')} |" for name in sources.crate_names())]
+
+
+def meaning(crate, name):
+    """The first sentence above a type or a definition of a crate, and its file."""
+    for path in sorted(glob.glob(f"{TOP}/crates/{crate}/src/**/*.rt", recursive=True)):
+        text = sources.sums.content(path)
+        if found := re.search(rf"^pub (?:enum|struct|trait) {name}\b.*", text, re.M):
+            return sources.sentence(sources.doc_above(text, text[found.start():])), os.path.relpath(path, f"{TOP}/crates")
+    for path in sorted(glob.glob(f"{TOP}/crates/{crate}/specs/**/*.antt", recursive=True)):
+        for each in sources.definitions(os.path.relpath(path, TOP)):
+            if each.name == name and each.comment:
+                return each.comment, os.path.relpath(path, f"{TOP}/crates")
+    raise SystemExit(f"crates/{crate} has no type or definition {name} with a line above it")
+
+
+def words(arguments):
+    lines = ["| Our word | Usual term | What it is |", "|---|---|---|"]
+    for entry in arguments.split(" || "):
+        word, term, crate, name = re.match(r"(.*?), (.*): (\w+) (\S+)$", entry).groups()
+        said, path = meaning(crate, name)
+        said = re.sub(r"\[(`\w+`)\]", r"\1", said[:1].upper() + said[1:])
+        lines.append(f"| {word} | {term} | {said} (`{path}`) |")
+    return lines
+
+
+def naming(word):
+    """The files of crates that name a word, by crate: the names of files without their ending."""
+    files = {}
+    for crate in sources.crate_names():
+        if not crate.startswith(("check_", "bench_")):
+            paths = sorted(glob.glob(f"{TOP}/crates/{crate}/src/**/*.rt", recursive=True)) + sorted(glob.glob(f"{TOP}/crates/{crate}/specs/*.antt"))
+            found = [os.path.basename(path).split(".")[0] for path in paths if word in words_in(path)]
+            if found := [name for name in dict.fromkeys(found) if name not in ("lib", "tests")]:
+                files[crate] = found
+    return files
+
+
+@functools.lru_cache(maxsize=None)
+def words_in(path):
+    return set(re.findall(r"\w+", "\n".join(line for line in sources.sums.content(path).split("\n") if not line.strip().startswith(("//", "--")))))
+
+
+def touched(arguments):
+    lines = ["| To add | Like | Files that name this |", "|---|---|---|"]
+    for entry in arguments.split(" || "):
+        what, word = entry.split(" = ")
+        files = naming(word)
+        if not files:
+            raise SystemExit(f"no file of a crate names {word}")
+        shown = "; ".join(f"`{crate}`: {', '.join(names)}" for crate, names in files.items())
+        lines.append(f"| {what} | `{word}` | {shown} |")
+    return lines
+
+
+def grammar(language):
+    return ["```", *re.search(r'^GRAMMAR = """\n(.*?)\n"""', content(f"tests/model/{language}.py"), re.S | re.M)[1].split("\n"), "```"]
+
+
+KINDS = {"words": words, "grammar": grammar, "touched": touched, "usage": usage, "session": session, "octets": octets, "refused": refused, "crates": crates}
+
+
+def page(written):
+    """A page as it is written, with its blocks printed anew."""
+    return BLOCK.sub(lambda found: "".join([found[1], *(f"{line}\n" for line in KINDS[found[2]](found[3].strip())), found[5]]), written)
+
+
+def pages():
+    """The pages of docs/ that have blocks."""
+    return [name.removesuffix(".md") for name in sorted(os.listdir(f"{TOP}/docs")) if name.endswith(".md") and BLOCK.search(content(f"docs/{name}"))]
