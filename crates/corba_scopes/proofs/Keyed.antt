@@ -1,35 +1,17 @@
 -- Names in a map or a set of indexmap, as lists, by induction on the list.
 use Rattle.std.proofs.Common.{◌≡◌, ℕ, List, [], ◌∷◌, ◌++◌, map, Bool, true, false, Option, Some, refl, ap, ◌∙◌, if◌then◌else◌}
 use Rattle.std.specs.List.{list_any}
-use Rattle.std.specs.Option.{is_some}
-use Rattle.std.specs.Map.{lookup}
 use Rattle.std.specs.Str.{bytes_eq}
 use Rattle.indexmap.specs.IndexMap.{insert_entry}
 use Rattle.indexmap.specs.IndexSet.{insert_key}
 use Rattle.idl_names.specs.Names.{has}
 use Rattle.idl_names.proofs.Tables.{any_map, append_map}
-use Rattle.corba_scopes.specs.Names.{look_up, put}
+use Rattle.corba_scopes.specs.Names.{put}
 use Rattle.corba_scopes.specs.Finding.{added}
-
--- what is put under a new name goes after the others
-put_new_by : {V : Type 0} (b : Bool) (name : List ℕ) (v : V) (e : List ℕ × V) (es rest : List (List ℕ × V)) (o : Option V)
-    → is_some (if b then Some e.1 else o) ≡ false
-    → (is_some o ≡ false → rest ≡ es ++ (name, v) ∷ []) → (if b then (e.0, v) ∷ es else e ∷ rest) ≡ e ∷ (es ++ (name, v) ∷ [])
-put_new_by true name v e es rest o h f = absurd cc
-put_new_by false name v e es rest o h f = ap (λ z. e ∷ z) (f h)
-
-pub put_new : {V : Type 0} (name : List ℕ) (v : V) (es : List (List ℕ × V)) → is_some (look_up name es) ≡ false
-    → put name v es ≡ es ++ (name, v) ∷ []
-put_new name v [] h = refl
-put_new name v (e ∷ es) h = put_new_by (bytes_eq name e.0) name v e es (put name v es) (look_up name es) h (put_new name v es)
 
 module _ {K V : Type 0} (items : K → List ℕ) where
   abbrev pub plain : List (K × V) → List (List ℕ × V)
   plain es = map (λ e. (items e.0, e.1)) es
-
-  pub lookup_map : (name : List ℕ) (es : List (K × V)) → lookup (λ k. bytes_eq name (items k)) es ≡ look_up name (plain es)
-  lookup_map name [] = refl
-  lookup_map name (e ∷ es) = ap (λ z. if bytes_eq name (items e.0) then Some e.1 else z) (lookup_map name es)
 
   insert_by : (b : Bool) (k : K) (v : V) (e : K × V) (es : List (K × V)) (rest : List (K × V)) (other : List (List ℕ × V))
       → plain rest ≡ other
@@ -47,12 +29,6 @@ module _ {K V : Type 0} (items : K → List ℕ) where
       → new ≡ insert_entry (λ a b. bytes_eq (items a) (items b)) es k v
       → items k ≡ name → plain es ≡ old → plain new ≡ put name v old
   put_on k v es new old name made key view = ap plain made ∙ insert_map k v es ∙ ap (λ z. put z v (plain es)) key ∙ ap (put name v) view
-
-  -- the same where the key is new
-  pub put_after : (k : K) (v : V) (es new : List (K × V)) (old : List (List ℕ × V)) (name : List ℕ)
-      → new ≡ insert_entry (λ a b. bytes_eq (items a) (items b)) es k v
-      → items k ≡ name → plain es ≡ old → is_some (look_up name old) ≡ false → plain new ≡ old ++ (name, v) ∷ []
-  put_after k v es new old name made key view none = put_on k v es new old name made key view ∙ put_new name v old none
 
 module _ {K : Type 0} (items : K → List ℕ) where
   key_by : (b : Bool) (k : K) (ks : List K)

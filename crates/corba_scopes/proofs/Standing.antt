@@ -1,13 +1,15 @@
--- What holds of everything that names stand for, and what stays when a name is declared, by induction on the names.
-use Rattle.std.proofs.Common.{◌≡◌, ℕ, Bool, true, false, List, [], ◌∷◌, ◌++◌, Option, Some, None, refl, if◌then◌else◌}
-use Rattle.std.specs.Option.{is_some, option_or, option_map}
+-- What holds of everything that names stand for, by induction on the names.
+use Rattle.std.proofs.Common.{◌≡◌, ℕ, Bool, true, false, List, [], ◌∷◌, ◌++◌, Option, Some, None}
+use Rattle.std.specs.Prelude.{cond}
+use Rattle.std.specs.Option.{option_or, option_map}
 use Rattle.std.specs.Str.{bytes_eq}
 use Rattle.idl_exprs.specs.declared.tree.Identifier.{Identifier}
 use Rattle.idl_exprs.specs.declared.tree.ScopedName.{ScopedName}
 use Rattle.corba_scopes.specs.declared.meanings.Entry.{Entry}
 use Rattle.corba_scopes.specs.declared.meanings.Meaning.{Meaning}
 use Rattle.corba_scopes.specs.Around.{prefix_of}
-use Rattle.corba_scopes.specs.Names.{Names, Meanings, look_up, declared, is_declared}
+use Rattle.idl_names.specs.Names.{meaning_of}
+use Rattle.corba_scopes.specs.Names.{Names, Meanings, declared}
 use Rattle.corba_scopes.specs.Finding.{line_of, entry_at, first_in, found, sought, within, first, parts_named, named}
 
 -- every meaning is so
@@ -26,21 +28,21 @@ IfFound P None = Unit {0}
 IfFound P (Some e) = P e.meaning
 
 module _ (P : Meaning → Type 0) where
-  meaning_by : (b : Bool) (m : Meaning) (o : Option Meaning) → P m → IfMeaning P o → IfMeaning P (if b then Some m else o)
+  meaning_by : (b : Bool) (m : Meaning) (o : Option Meaning) → P m → IfMeaning P o → IfMeaning P (cond b (Some m) o)
   meaning_by true m o h r = h
   meaning_by false m o h r = r
 
   -- what is looked up
-  pub meaning_is : (name : List ℕ) (es : Meanings) → AllMeanings P es → IfMeaning P (look_up name es)
+  pub meaning_is : (name : List ℕ) (es : Meanings) → AllMeanings P es → IfMeaning P (meaning_of name es)
   meaning_is name [] h = tt
-  meaning_is name (e ∷ es) h = meaning_by (bytes_eq name e.0) e.1 (look_up name es) h.0 (meaning_is name es h.1)
+  meaning_is name (e ∷ es) h = meaning_by (bytes_eq name e.0) e.1 (meaning_of name es) h.0 (meaning_is name es h.1)
 
   entry_by : (full : List ℕ) (o : Option Meaning) → IfMeaning P o → IfFound P (option_map (λ m. record { name = full; meaning = m }) o)
   entry_by full None h = tt
   entry_by full (Some m) h = h
 
   entry_is : (s : Names) (full : List ℕ) → AllMeanings P s.meanings → IfFound P (entry_at s full)
-  entry_is s full h = entry_by full (look_up full s.meanings) (meaning_is full s.meanings h)
+  entry_is s full h = entry_by full (meaning_of full s.meanings) (meaning_is full s.meanings h)
 
   either_is : (a b : Option Entry) → IfFound P a → IfFound P b → IfFound P (option_or a b)
   either_is None b h r = r
@@ -96,44 +98,3 @@ module _ (P : Meaning → Type 0) where
 pub all_follow : (P Q : Meaning → Type 0) (es : Meanings) → ((m : Meaning) → P m → Q m) → AllMeanings P es → AllMeanings Q es
 all_follow P Q [] f h = tt
 all_follow P Q (e ∷ es) f h = (f e.1 h.0, all_follow P Q es f h.1)
-
--- ---- what stays
-
-stay_by : {V : Type 0} (b : Bool) (x v : V) (o p : Option V)
-    → (if b then Some x else o) ≡ Some v → (o ≡ Some v → p ≡ Some v) → (if b then Some x else p) ≡ Some v
-stay_by true x v o p h f = h
-stay_by false x v o p h f = f h
-
--- a name that stands for something still stands for it when one more is declared
-pub stays : {V : Type 0} (name : List ℕ) (v : V) (es : List (List ℕ × V)) (e : List ℕ × V)
-    → look_up name es ≡ Some v → look_up name (es ++ e ∷ []) ≡ Some v
-stays name v [] e h = absurd cc
-stays name v (x ∷ es) e h = stay_by (bytes_eq name x.0) x.1 v (look_up name es) (look_up name (es ++ e ∷ [])) h (stays name v es e)
-
-declared_by : (b : Bool) (x : Meaning) (o p : Option Meaning)
-    → is_some (if b then Some x else o) ≡ true → (is_some o ≡ true → is_some p ≡ true) → is_some (if b then Some x else p) ≡ true
-declared_by true x o p h f = refl
-declared_by false x o p h f = f h
-
--- a name that is declared stays declared
-pub stays_declared : (name : List ℕ) (es : Meanings) (e : List ℕ × Meaning)
-    → is_declared name es ≡ true → is_declared name (es ++ e ∷ []) ≡ true
-stays_declared name [] e h = absurd cc
-stays_declared name (x ∷ es) e h =
-    declared_by (bytes_eq name x.0) x.1 (look_up name es) (look_up name (es ++ e ∷ [])) h (stays_declared name es e)
-
-undeclared_by : (b : Bool) (x : Meaning) (o p : Option Meaning)
-    → is_some (if b then Some x else o) ≡ false → (is_some o ≡ false → is_some p ≡ false) → is_some (if b then Some x else p) ≡ false
-undeclared_by true x o p h f = absurd cc
-undeclared_by false x o p h f = f h
-
-last_by : (b : Bool) (x : Meaning) → b ≡ false → is_some (if b then Some x else None) ≡ false
-last_by true x h = absurd cc
-last_by false x h = refl
-
--- a name that is not declared stays so when another is
-pub stays_new : (name : List ℕ) (es : Meanings) (other : List ℕ) (m : Meaning)
-    → is_declared name es ≡ false → bytes_eq name other ≡ false → is_declared name (es ++ (other, m) ∷ []) ≡ false
-stays_new name [] other m h n = last_by (bytes_eq name other) m n
-stays_new name (x ∷ es) other m h n =
-    undeclared_by (bytes_eq name x.0) x.1 (look_up name es) (look_up name (es ++ (other, m) ∷ [])) h (λ r. stays_new name es other m r n)

@@ -1,9 +1,8 @@
 -- The values of constant expressions.
-use Rattle.std.specs.Prelude.{true, false, ℕ, ℤ, pos, List, length, Option, Some, None, Result, Ok, Err}
-use Rattle.idl_const.specs.declared.value.ConstErr.{ConstErr}
+use Rattle.std.specs.Prelude.{true, false, ℕ, ℤ, pos, List, length, Option, Some, None, Ok}
 use Rattle.idl_const.specs.Values.{unary_value, binary_value}
 use Rattle.aoi.specs.declared.faults.NameFault.TheVariants.{Unknown, NotConst, Range}
-use Rattle.idl_names.specs.Answers.{Answer, fault, and_then, natural}
+use Rattle.idl_names.specs.Answers.{Answer, fault, and_then, natural, in_range}
 use Rattle.idl_exprs.specs.declared.tree.Leaf.{Leaf}
 use Rattle.idl_exprs.specs.declared.tree.Leaf.TheVariants as L
 use Rattle.idl_exprs.specs.Trees.{Tree, leaf, unary, binary}
@@ -33,11 +32,6 @@ leaf_number s env d (L.Text t) = fault Range d
 leaf_number s env d (L.Truth true) = Ok (pos 1)
 leaf_number s env d (L.Truth false) = Ok (pos 0)
 leaf_number s env d (L.Name n) = number_of d (named s env n)
-
--- what an operator gives; where it gives nothing, the number is out of range
-abbrev pub in_range : ℕ → Result ℤ ConstErr → Answer ℤ
-in_range d (Ok n) = Ok n
-in_range d (Err e) = fault Range d
 
 -- the number of an expression at a place, or its leftmost fault
 abbrev pub number : Names → List (List ℕ) → ℕ → Tree → Answer ℤ

@@ -3,16 +3,16 @@ use Rattle.std.specs.Prelude.{Bool, true, false, ℕ, List, [], ◌∷◌, ◌++
 use Rattle.std.specs.Option.{option_or, option_map, unwrap_or}
 use Rattle.idl_exprs.specs.declared.tree.Identifier.{Identifier}
 use Rattle.idl_exprs.specs.declared.tree.ScopedName.{ScopedName}
-use Rattle.idl_names.specs.Names.{has}
+use Rattle.idl_names.specs.Names.{has, meaning_of}
 use Rattle.corba_scopes.specs.declared.meanings.Entry.{Entry}
 use Rattle.corba_scopes.specs.Around.{prefix_of}
-use Rattle.corba_scopes.specs.Names.{Names, look_up, put}
+use Rattle.corba_scopes.specs.Names.{Names, put}
 
 -- ---- the lines of interfaces
 
 -- the scopes in which a name of a scope is found, in order: an interface's are its own and its bases', any other's is that alone
 abbrev pub line_of : List ℕ → Names → List (List ℕ)
-line_of scope s = unwrap_or (look_up scope s.lines) (scope ∷ [])
+line_of scope s = unwrap_or (meaning_of scope s.lines) (scope ∷ [])
 
 -- a line with a scope after it, unless the scope is there
 abbrev pub added : List ℕ → List (List ℕ) → List (List ℕ)
@@ -35,7 +35,7 @@ with_line scope line s = record s { lines = put scope line s.lines }
 
 -- a full name with what it stands for, if it is declared
 abbrev pub entry_at : Names → List ℕ → Option Entry
-entry_at s full = option_map (λ m. record { name = full; meaning = m }) (look_up full s.meanings)
+entry_at s full = option_map (λ m. record { name = full; meaning = m }) (meaning_of full s.meanings)
 
 -- a name in the first of these scopes in which it is declared
 abbrev pub first_in : Names → List ℕ → List (List ℕ) → Option Entry

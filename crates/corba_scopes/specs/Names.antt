@@ -1,12 +1,11 @@
 -- The names that are declared, and how a name is declared in a scope.
-use Rattle.std.specs.Prelude.{Bool, ℕ, List, [], ◌∷◌, ◌++◌, map, Option, Some, None, Ok, if◌then◌else◌}
-use Rattle.std.specs.Option.{is_some}
+use Rattle.std.specs.Prelude.{ℕ, List, [], ◌∷◌, ◌++◌, map, Option, Some, None, Ok, if◌then◌else◌}
 use Rattle.std.specs.Str.{bytes_eq}
 use Rattle.std.specs.Char.{to_ascii_lowercase}
 use Rattle.aoi.specs.declared.faults.NameFault.{NameFault}
 use Rattle.aoi.specs.declared.faults.NameFault.TheVariants.{Twice, CaseClash}
 use Rattle.idl_names.specs.Answers.{Answer, fault, and_then}
-use Rattle.idl_names.specs.Names.{has}
+use Rattle.idl_names.specs.Names.{has, is_declared}
 use Rattle.corba_scopes.specs.declared.meanings.Meaning.{Meaning}
 
 -- full names in the order of their declarations, each with what it stands for
@@ -23,19 +22,10 @@ pub record Names : Type 0 where
 abbrev pub nothing : Names
 nothing = record { meanings = []; folded = []; lines = [] }
 
--- what is held by this name, if something is
-abbrev pub look_up : {V : Type 0} → List ℕ → List (List ℕ × V) → Option V
-look_up name [] = None
-look_up name (e ∷ es) = if bytes_eq name e.0 then Some e.1 else look_up name es
-
 -- the same with something held by this name, in its place or after the others
 abbrev pub put : {V : Type 0} → List ℕ → V → List (List ℕ × V) → List (List ℕ × V)
 put name v [] = (name, v) ∷ []
 put name v (e ∷ es) = if bytes_eq name e.0 then (e.0, v) ∷ es else e ∷ put name v es
-
--- a full name is declared
-abbrev pub is_declared : List ℕ → Meanings → Bool
-is_declared full meanings = is_some (look_up full meanings)
 
 -- an identifier with its letters in lower case
 abbrev pub lower : List ℕ → List ℕ

@@ -2,14 +2,14 @@
 
 ghost use Rattle.std.specs.Prelude.{◌≡◌};
 ghost use Rattle.idl_names.specs.Answers.{Gives};
-ghost use Rattle.corba_scopes.specs.Consts.{number_of, leaf_number, in_range, number, constant, length_of};
+ghost use Rattle.corba_scopes.specs.Consts.{number_of, leaf_number, number, constant, length_of};
 
 use crate::meanings::{Constant, Entry, Meaning};
 use crate::state::Scopes;
 use aoi::{NameErr, NameFault};
-use idl_const::{ConstErr, binary, unary};
+use idl_const::{binary, unary};
 use idl_exprs::{Expr, Leaf, Node};
-use idl_names::natural;
+use idl_names::{in_range, natural};
 use kit_base::Name;
 use std::alloc::Global;
 
@@ -29,20 +29,6 @@ fn number_of(decl: u32, entry: Option<Entry>) -> Result<i128, NameErr>
         None => NameFault::Unknown,
     };
     Err(NameErr { fault, decl })
-}
-
-/// The number that an operator gives; where it gives none, the number is out of range.
-fn in_range(decl: u32, given: Result<i128, ConstErr>) -> Result<i128, NameErr>
-    ensures value { Gives (λ x. x) result (in_range decl given) }
-    ensures exact { result ≡ in_range decl given }
-{
-    match given {
-        Ok(n) => Ok(n),
-        Err(_) => Err(NameErr {
-            fault: NameFault::Range,
-            decl,
-        }),
-    }
 }
 
 impl Scopes {

@@ -9,7 +9,6 @@ mod finding;
 mod lines;
 mod meanings;
 mod state;
-mod tables;
 
 pub use around::{Env, full_name, innermost, inside, of_file, prefix_of};
 pub use clashes::{lower_of, refuse_fault};

@@ -1,7 +1,8 @@
 //! The scopes of interfaces, each with those in which its names are found.
 
 ghost use Rattle.std.specs.Prelude.{◌≡◌, ◌∷◌, [], map, IfOk, OnOk, option_copied};
-ghost use Rattle.corba_scopes.specs.Names.{look_up, put};
+ghost use Rattle.idl_names.specs.Names.{meaning_of};
+ghost use Rattle.corba_scopes.specs.Names.{put};
 ghost use Rattle.corba_scopes.specs.Finding.{added, joined};
 
 use indexmap::{IndexMap, IndexSet};
@@ -97,7 +98,7 @@ impl Lines {
 
     /// The line of a scope, where it is an interface's.
     pub(crate) fn line(&self, scope: &[u8]) -> Option<&Line>
-        ensures { option_copied result ≡ look_up scope.now self.now }
+        ensures { option_copied result ≡ meaning_of scope.now self.now }
     {
         self.lines.get(scope)
     }

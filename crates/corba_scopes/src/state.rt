@@ -2,25 +2,31 @@
 
 ghost use Rattle.std.specs.Prelude.{◌≡◌, None, IfOk, OnOk};
 ghost use Rattle.idl_names.specs.Answers.{Gives};
-ghost use Rattle.corba_scopes.specs.Names.{nothing, clash, declared, declared_on, refused_by};
+ghost use Rattle.corba_scopes.specs.Names.{lower, nothing, clash, declared, declared_on, refused_by};
 ghost use Rattle.corba_scopes.specs.Finding.{with_base, with_line};
 
 use crate::around::full_name;
 use crate::clashes::refuse_fault;
 use crate::lines::{Line, Lines};
 use crate::meanings::Meaning;
-use crate::tables::{Table, lower};
 use aoi::{NameErr, NameFault};
-use idl_names::Names;
+use idl_names::{Names, Table};
 use kit_base::NoMemory;
 use std::alloc::Global;
 use std::marker::Model;
+
+/// An identifier with its letters in lower case.
+fn lower(alloc: Global, name: &[u8]) -> Result<Vec<u8>, NoMemory>
+    ensures { IfOk result (λ key. key.items ≡ lower name.now) }
+{
+    Ok(name.to_ascii_lowercase(alloc)?)
+}
 
 /// The names that a file has declared, each in its scope.
 #[derive(Drop)]
 pub struct Scopes {
     /// Full names, each with what it stands for.
-    table: Table,
+    table: Table<Meaning>,
     /// The same names with the last identifier in lower case.
     folded: Names,
     /// The lines of interfaces.
@@ -49,7 +55,7 @@ impl Scopes {
     }
 
     /// The names with what they stand for.
-    pub(crate) fn table(&self) -> &Table
+    pub(crate) fn table(&self) -> &Table<Meaning>
         ensures { result.now ≡ self.now.meanings }
     {
         &self.table
@@ -108,7 +114,8 @@ impl Scopes {
         ensures ok { OnOk result (self.new ≡ declared scope.now name.now meaning self.old) }
     {
         let small = full_name(alloc, scope, lower(alloc, name)?.as_slice())?;
-        self.table.push(alloc, scope, name, meaning)?;
+        let full = full_name(alloc, scope, name)?;
+        self.table.declare(alloc, full.as_slice(), meaning)?;
         self.folded.push(alloc, small.as_slice())?;
         Ok(())
     }

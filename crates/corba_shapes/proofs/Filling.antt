@@ -7,7 +7,7 @@ use Rattle.std.proofs.lemmas.Bool.{or_parts, or_from}
 use Rattle.mint.specs.declared.kind.Count.{Count}
 use Rattle.aoi.specs.Shapes.{Shape, members_of}
 use Rattle.aoi.specs.Sound.{is_some_count}
-use Rattle.idl_names.specs.Names.{has}
+use Rattle.idl_names.specs.Names.{has, is_declared}
 use Rattle.idl_names.specs.Lists.{is_some_list}
 use Rattle.idl_names.proofs.Parts.{then_ok, ok_same}
 use Rattle.idl_names.proofs.Tables.{append_map}
@@ -16,7 +16,7 @@ use Rattle.corba_decls.specs.declared.member_tree.Declarator.{Declarator}
 use Rattle.corba_decls.specs.declared.member_tree.Member.{Member}
 use Rattle.corba_scopes.specs.declared.meanings.Meaning.{Meaning}
 use Rattle.corba_scopes.specs.declared.meanings.Meaning.TheVariants as M
-use Rattle.corba_scopes.specs.Names.{Names, is_declared, clash, refused_by, declared_on}
+use Rattle.corba_scopes.specs.Names.{Names, clash, refused_by, declared_on}
 use Rattle.corba_scopes.specs.Around.{innermost}
 use Rattle.corba_shapes.specs.declared.forms.Form.{Form}
 use Rattle.corba_shapes.specs.Forms.{type_form, form_shape}

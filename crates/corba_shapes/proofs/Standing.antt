@@ -1,8 +1,8 @@
 -- What the names of a file stand for, over the types so far.
 use Rattle.std.proofs.Common.{◌≡◌, ℕ, ℤ, Bool, true, false, List, [], ◌∷◌, ◌++◌, length, Option, Some, None, refl, ap, subst, if◌then◌else◌}
 use Rattle.std.specs.Prelude.{Ok}
-use Rattle.std.specs.Option.{is_some}
 use Rattle.std.specs.Str.{bytes_eq}
+use Rattle.std.proofs.lemmas.Bool.{or_parts, or_from}
 use Rattle.std.proofs.lemmas.Slice.Eq.{bytes_eq-Decides}
 use Rattle.aoi.specs.declared.faults.NameFault.{NameFault}
 use Rattle.aoi.specs.declared.faults.NameFault.TheVariants.{Twice}
@@ -11,7 +11,8 @@ use Rattle.idl_names.proofs.Parts.{then_ok, ok_same}
 use Rattle.idl_names.proofs.Standing.{UseIs, FewerBelow, use_grow}
 use Rattle.corba_scopes.specs.declared.meanings.Meaning.{Meaning}
 use Rattle.corba_scopes.specs.declared.meanings.Meaning.TheVariants as M
-use Rattle.corba_scopes.specs.Names.{Names, Meanings, look_up, is_declared, clash, declared, declared_on, refused_by}
+use Rattle.idl_names.specs.Names.{is_declared}
+use Rattle.corba_scopes.specs.Names.{Names, Meanings, clash, declared, declared_on, refused_by}
 use Rattle.corba_scopes.proofs.Standing.{AllMeanings, all_follow, all_declared}
 
 -- a type that a name stands for is one of those so far
@@ -66,25 +67,14 @@ declared_is types labels s scope name m out is means h =
 
 -- ---- what is not declared
 
-pub record Apart (q other : List ℕ) (es : Meanings) : Type 0 where
-  pub old : is_declared q es ≡ false
-  pub last : bytes_eq q other ≡ false
-
-last_by : (q other : List ℕ) (m : Meaning) (b : Bool) → bytes_eq q other ≡ b → is_some (if b then Some m else None) ≡ false
-    → Apart q other []
-last_by q other m true e h = absurd cc
-last_by q other m false e h = record { old = refl; last = e }
-
-apart_by : (b : Bool) (x : Meaning) (o p : Option Meaning) (T : Type 0) → is_some (if b then Some x else p) ≡ false
-    → (is_some p ≡ false → (is_some o ≡ false) × T) → (is_some (if b then Some x else o) ≡ false) × T
-apart_by true x o p T h f = absurd cc
-apart_by false x o p T h f = f h
-
 -- what is not declared after one more name was not before, and is another
 pub apart : (q other : List ℕ) (m : Meaning) (es : Meanings) → is_declared q (es ++ (other, m) ∷ []) ≡ false → (is_declared q es ≡ false)
     × (bytes_eq q other ≡ false)
-apart q other m [] h = let a = last_by q other m (bytes_eq q other) refl h in (refl, a.last)
-apart q other m (e ∷ es) h = apart_by (bytes_eq q e.0) e.1 (look_up q es) (look_up q (es ++ (other, m) ∷ [])) _ h (apart q other m es)
+apart q other m [] h = (refl, (or_parts _ _ h).0)
+apart q other m (e ∷ es) h =
+    let parts = or_parts _ _ h in
+    let rest = apart q other m es parts.1 in
+    (or_from _ _ parts.0 rest.0, rest.1)
 
 differ_by : (scope a b : List ℕ) (t : Bool) → bytes_eq a b ≡ t → bytes_eq (scope ++ a) (scope ++ b) ≡ false → bytes_eq a b ≡ false
 differ_by scope a b true e h =

@@ -7,12 +7,12 @@ ghost use Rattle.corba_scopes.specs.Names.{lower, lower_of, refused_by, clash};
 ghost use Rattle.corba_shapes.specs.Held.{state};
 ghost use Rattle.corba_shapes.specs.Enums.{item_clash, items_on, enum_on};
 
-use crate::state::{Shapes, want};
+use crate::state::Shapes;
 use aoi::{Items, NameErr, NameFault};
 use corba_decls::Enum;
 use corba_scopes::{Meaning, Scopes, innermost, lower_of, refuse_fault};
 use idl_exprs::Identifier;
-use idl_names::{Tag, add_label, enum_of};
+use idl_names::{Tag, add_label, enum_of, want};
 use indexmap::IndexSet;
 use kit_base::{Name, NoMemory};
 use std::alloc::Global;

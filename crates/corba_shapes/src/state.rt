@@ -8,9 +8,9 @@ ghost use Rattle.corba_shapes.specs.Held.{state};
 ghost use Rattle.corba_shapes.specs.State.{start, counted, with_type};
 
 use crate::types::TypeList;
-use aoi::{NameErr, NameFault, Raises, Ty};
+use aoi::{NameErr, Raises, Ty};
 use corba_scopes::{Meaning, Scopes, full_name, innermost};
-use idl_names::{Tag, Use};
+use idl_names::{Tag, Use, want};
 use indexmap::IndexSet;
 use kit_base::Name;
 use mint::kind::Count;
@@ -29,16 +29,6 @@ pub struct Shapes {
     pub exceptions: Raises,
     /// How many declarations have begun.
     pub count: u32,
-}
-
-/// The fault of out of memory, which is in no declaration.
-pub(crate) fn want() -> NameErr
-    ensures { result.fault ≡ WantOfMemory }
-{
-    NameErr {
-        fault: NameFault::NoMemory,
-        decl: 0,
-    }
 }
 
 impl Shapes {

@@ -8,11 +8,11 @@ ghost use Rattle.corba_shapes.specs.Held.{state};
 ghost use Rattle.corba_shapes.specs.Structs.{struct_on, slashed, repository, raised, exception_on};
 
 use crate::fields::members;
-use crate::state::{Shapes, want};
+use crate::state::Shapes;
 use aoi::{Fields, NameErr, Raise};
 use corba_decls::{Exception, Struct};
 use corba_scopes::{Meaning, full_name, innermost, inside};
-use idl_names::{Tag, struct_of};
+use idl_names::{Tag, struct_of, want};
 use kit_base::{Name, NoMemory};
 use std::alloc::Global;
 

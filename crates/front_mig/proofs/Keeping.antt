@@ -20,11 +20,11 @@ use Rattle.front_mig.specs.declared.meaning.Meaning.TheVariants as M
 use Rattle.front_mig.specs.declared.meaning.Form.{Form}
 use Rattle.front_mig.specs.declared.meaning.Form.TheVariants as F
 use Rattle.idl_names.specs.Answers.{refused}
-use Rattle.idl_names.specs.Names.{has}
+use Rattle.idl_names.specs.Names.{has, is_declared}
 use Rattle.idl_names.specs.Uses.{shape_of_use, tag_of_use}
 use Rattle.front_mig.specs.Numbers.{ids_fit}
 use Rattle.front_mig.specs.Types.{Scope, type_of, data_in, form}
-use Rattle.front_mig.specs.State.{State, is_declared, with_type, with_form, type_on, skip_on}
+use Rattle.front_mig.specs.State.{State, with_type, with_form, type_on, skip_on}
 use Rattle.front_mig.specs.Routines.{Fields, Parameters, goes_in, comes_out, is_requestport, is_port, port_on, with_field, parameter_on, parameters_on, parameters, operation, with_routine, routine_on}
 use Rattle.front_mig.specs.Resolved.{stated, stated_on}
 use Rattle.idl_names.proofs.Parts.{then_ok, refused_ok, ok_same}

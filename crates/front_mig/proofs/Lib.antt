@@ -2,7 +2,7 @@
 
 -- Files worked out by hand
 mod Rows
--- * Names in a map of indexmap, as lists, by induction on the list
+-- * What a name stands for in one scope before another, by induction on the scope
 pub mod Tables
 -- What names stand for, and the types that are made of them, over so many types of the unit, by induction on the scope
 pub mod Standing

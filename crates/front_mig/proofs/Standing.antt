@@ -20,7 +20,8 @@ use Rattle.front_mig.specs.declared.meaning.Form.TheVariants as F
 use Rattle.idl_names.specs.Answers.{Answer, and_then, refused}
 use Rattle.idl_names.specs.Uses.{shape_of_use, tag_of_use}
 use Rattle.front_mig.specs.Numbers.{value, length_of}
-use Rattle.front_mig.specs.Types.{Scope, known, meaning_in, found, type_of, kind_in, size_in, data_in, numbers_in, sized, plainly, row, form}
+use Rattle.idl_names.specs.Names.{meaning_of}
+use Rattle.front_mig.specs.Types.{Scope, known, found, type_of, kind_in, size_in, data_in, numbers_in, sized, plainly, row, form}
 use Rattle.idl_names.proofs.Parts.{then_ok, ok_same}
 use Rattle.idl_names.proofs.Forming.{natural_low}
 
@@ -114,9 +115,9 @@ found_here : (limit : ℕ) (b : Bool) (m : Meaning) (o : Option Meaning) → Mea
 found_here limit true m o h r = h
 found_here limit false m o h r = r
 
-found_at : (limit : ℕ) (scope : Scope) (name : List ℕ) → ScopeIs limit scope → FoundIs limit (meaning_in name scope)
+found_at : (limit : ℕ) (scope : Scope) (name : List ℕ) → ScopeIs limit scope → FoundIs limit (meaning_of name scope)
 found_at limit [] name h = tt
-found_at limit (e ∷ es) name h = found_here limit (bytes_eq name e.0) e.1 (meaning_in name es) h.0 (found_at limit es name h.1)
+found_at limit (e ∷ es) name h = found_here limit (bytes_eq name e.0) e.1 (meaning_of name es) h.0 (found_at limit es name h.1)
 
 found_is : (limit d : ℕ) (o : Option Meaning) (m : Meaning) → FoundIs limit o → found d o ≡ Ok m → MeaningIs limit m
 found_is limit d None m h g = absurd cc
@@ -125,7 +126,7 @@ found_is limit d (Some n) m h g = subst (MeaningIs limit) (ok_same n m g) h
 pub type_is : (limit : ℕ) (scope : Scope) (d : ℕ) (name : List ℕ) (m : Meaning) → ScopeIs limit scope → type_of scope d name ≡ Ok m
     → MeaningIs limit m
 type_is limit scope d name m is h =
-    found_is limit d (meaning_in name (scope ++ known)) m
+    found_is limit d (meaning_of name (scope ++ known)) m
     (found_at limit (scope ++ known) name (scope_join limit scope known is (known_is limit))) h
 
 pub data_is : (limit d : ℕ) (m : Meaning) (x : Use) → MeaningIs limit m → data_in d m ≡ Ok x → DataIs limit x

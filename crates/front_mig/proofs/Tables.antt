@@ -1,71 +1,31 @@
--- Names in a map of indexmap, as lists, by induction on the list.
-use Rattle.std.proofs.Common.{◌≡◌, ℕ, List, [], ◌∷◌, ◌++◌, map, Bool, true, false, ◌||◌, Option, Some, None, refl, ap, ◌∙◌}
+-- What a name stands for in one scope before another, by induction on the scope.
+use Rattle.std.proofs.Common.{◌≡◌, ℕ, List, [], ◌∷◌, ◌++◌, Bool, true, false, Option, Some, None, refl}
 use Rattle.std.specs.Prelude.{cond}
-use Rattle.std.specs.Option.{is_some}
-use Rattle.std.specs.Map.{lookup}
 use Rattle.std.specs.Str.{bytes_eq}
-use Rattle.std.proofs.lemmas.Bool.{or_parts}
-use Rattle.indexmap.specs.IndexMap.{insert_entry}
-use Rattle.front_mig.specs.Types.{Scope, meaning_in}
-use Rattle.front_mig.specs.State.{is_declared}
+use Rattle.idl_names.specs.Names.{meaning_of}
+use Rattle.front_mig.specs.Types.{Scope}
 use Rattle.front_mig.specs.declared.meaning.Meaning.{Meaning}
-
-module _ {K : Type 0} (items : K → List ℕ) where
-  abbrev plain : List (K × Meaning) → Scope
-  plain es = map (λ e. (items e.0, e.1)) es
-
-  some_either : (b : Bool) (m : Meaning) (o : Option Meaning) → is_some (cond b (Some m) o) ≡ (b || is_some o)
-  some_either true m o = refl
-  some_either false m o = refl
-
-  pub declared_map : (name : List ℕ) (es : List (K × Meaning))
-      → is_some (lookup (λ k. bytes_eq name (items k)) es) ≡ is_declared name (plain es)
-  declared_map name [] = refl
-  declared_map name (e ∷ es) =
-      some_either (bytes_eq name (items e.0)) e.1
-      (lookup (λ k. bytes_eq name (items k)) es) ∙ ap (λ z. bytes_eq name (items e.0) || z) (declared_map name es)
-
-  pub meaning_map : (name : List ℕ) (es : List (K × Meaning)) → lookup (λ k. bytes_eq name (items k)) es ≡ meaning_in name (plain es)
-  meaning_map name [] = refl
-  meaning_map name (e ∷ es) = ap (λ z. cond (bytes_eq name (items e.0)) (Some e.1) z) (meaning_map name es)
-
-  insert_map : (k : K) (m : Meaning) (es : List (K × Meaning)) → is_declared (items k) (plain es) ≡ false
-      → plain (insert_entry (λ a b. bytes_eq (items a) (items b)) es k m) ≡ plain es ++ (items k, m) ∷ []
-  insert_map k m [] h = refl
-  insert_map k m (e ∷ es) h =
-      let parts = or_parts (bytes_eq (items k) (items e.0)) (is_declared (items k) (plain es)) h in
-      rw parts.0 (ap (λ z. (items e.0, e.1) ∷ z) (insert_map k m es parts.1))
-
-  pub put_on : (k : K) (m : Meaning) (es new : List (K × Meaning)) (old : Scope) (name start : List ℕ)
-      → new ≡ insert_entry (λ a b. bytes_eq (items a) (items b)) es k m
-      → items k ≡ start ++ name → start ≡ [] → plain es ≡ old → is_declared name old ≡ false → plain new ≡ old ++ (name, m) ∷ []
-  put_on k m es new old name start made key empty view none =
-      let key' : items k ≡ name = key ∙ ap (λ z. z ++ name) empty in
-      let none' : is_declared (items k) (plain es) ≡ false = ap (λ z. is_declared z (plain es)) key' ∙ ap (is_declared name) view ∙ none in
-      ap plain made ∙ insert_map k m es none' ∙ ap (λ z. plain es ++ (z, m) ∷ []) key' ∙ ap (λ z. z ++ (name, m) ∷ []) view
-
--- ---- what a name stands for in one scope before another
 
 here_by : (b : Bool) (x m : Meaning) (o p : Option Meaning) → (o ≡ Some m → p ≡ Some m) → cond b (Some x) o ≡ Some m
     → cond b (Some x) p ≡ Some m
 here_by true x m o p f h = h
 here_by false x m o p f h = f h
 
-pub meaning_here : (name : List ℕ) (scope back : Scope) (m : Meaning) → meaning_in name scope ≡ Some m
-    → meaning_in name (scope ++ back) ≡ Some m
+pub meaning_here : (name : List ℕ) (scope back : Scope) (m : Meaning) → meaning_of name scope ≡ Some m
+    → meaning_of name (scope ++ back) ≡ Some m
 meaning_here name [] back m h = absurd cc
 meaning_here name (e ∷ es) back m h =
-    here_by (bytes_eq name e.0) e.1 m (meaning_in name es) (meaning_in name (es ++ back)) (meaning_here name es back m) h
+    here_by (bytes_eq name e.0) e.1 m (meaning_of name es) (meaning_of name (es ++ back)) (meaning_here name es back m) h
 
 after_by : (b : Bool) (x : Meaning) (o p q : Option Meaning) → (o ≡ None → p ≡ q) → cond b (Some x) o ≡ None → cond b (Some x) p ≡ q
 after_by true x o p q f h = absurd cc
 after_by false x o p q f h = f h
 
-pub meaning_after : (name : List ℕ) (scope back : Scope) → meaning_in name scope ≡ None
-    → meaning_in name (scope ++ back) ≡ meaning_in name back
+pub meaning_after : (name : List ℕ) (scope back : Scope) → meaning_of name scope ≡ None
+    → meaning_of name (scope ++ back) ≡ meaning_of name back
 meaning_after name [] back h = refl
 meaning_after name (e ∷ es) back h =
-    after_by (bytes_eq name e.0) e.1 (meaning_in name es) (meaning_in name (es ++ back)) (meaning_in name back)
+    after_by (bytes_eq name e.0) e.1 (meaning_of name es) (meaning_of name (es ++ back)) (meaning_of name back)
     (meaning_after name es back) h
 
 pub ruleset joined = (meaning_here, meaning_after)

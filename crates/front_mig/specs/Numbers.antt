@@ -1,17 +1,11 @@
 -- The values of expressions.
-use Rattle.std.specs.Prelude.{Bool, nat_le, ℕ, ◌+◌, ◌-◌, ◌^◌, ℤ, not, Result, Ok, Err}
-use Rattle.idl_const.specs.declared.value.ConstErr.{ConstErr}
+use Rattle.std.specs.Prelude.{Bool, nat_le, ℕ, ◌+◌, ◌-◌, ◌^◌, ℤ, not, Ok}
 use Rattle.idl_const.specs.Values.{unary_value, binary_value}
 use Rattle.aoi.specs.declared.faults.NameFault.TheVariants.{Range}
 use Rattle.idl_exprs.specs.declared.tree.Leaf.{Leaf}
 use Rattle.idl_exprs.specs.declared.tree.Leaf.TheVariants as L
 use Rattle.idl_exprs.specs.Trees.{Tree, leaf, unary, binary}
-use Rattle.idl_names.specs.Answers.{Answer, fault, and_then, refused, natural}
-
--- what an operator gives; where it gives nothing, the number is out of range
-abbrev pub in_range : ℕ → Result ℤ ConstErr → Answer ℤ
-in_range d (Ok n) = Ok n
-in_range d (Err e) = fault Range d
+use Rattle.idl_names.specs.Answers.{Answer, fault, and_then, refused, natural, in_range}
 
 -- the value of a leaf, which is a number in every tree of a file
 abbrev pub leaf_value : ℕ → Leaf → Answer ℤ

@@ -1,5 +1,5 @@
 -- What is declared so far.
-use Rattle.std.specs.Prelude.{Bool, ℕ, ◌+◌, not, List, [], ◌∷◌, ◌++◌, length, map, Ok}
+use Rattle.std.specs.Prelude.{ℕ, ◌+◌, not, List, [], ◌∷◌, ◌++◌, length, Ok}
 use Rattle.aoi.specs.declared.faults.NameFault.TheVariants.{Twice, Range}
 use Rattle.aoi.specs.Shapes.{Shape, array}
 use Rattle.aoi.specs.Plain.{PlainOperation}
@@ -12,7 +12,7 @@ use Rattle.front_mig.specs.declared.meaning.Meaning.TheVariants as M
 use Rattle.front_mig.specs.declared.meaning.Form.{Form}
 use Rattle.front_mig.specs.declared.meaning.Form.TheVariants as F
 use Rattle.idl_names.specs.Answers.{Answer, and_then, refused}
-use Rattle.idl_names.specs.Names.{has}
+use Rattle.idl_names.specs.Names.{is_declared}
 use Rattle.idl_names.specs.Uses.{shape_of_use, tag_of_use}
 use Rattle.front_mig.specs.Numbers.{ids_fit}
 use Rattle.front_mig.specs.Types.{Scope, form}
@@ -28,10 +28,6 @@ pub record State : Type 0 where
 -- what is declared before the first statement
 abbrev pub start : State
 start = record { scope = []; types = []; names = []; ops = []; slots = 0 }
-
--- a type of the file has the name
-abbrev pub is_declared : List ℕ → Scope → Bool
-is_declared name scope = has name (map (λ e. e.0) scope)
 
 -- one more name of a type
 abbrev pub declared : List ℕ → Meaning → State → State

@@ -1,8 +1,6 @@
 -- The types that names stand for, and those that `type` statements make.
 use Rattle.std.specs.Prelude.{not, ℕ, pos, List, [], ◌∷◌, ◌++◌, codes, Option, Some, None, Ok}
 use Rattle.std.specs.Ordering.{int_eq}
-use Rattle.std.specs.Map.{lookup}
-use Rattle.std.specs.Str.{bytes_eq}
 use Rattle.mint.specs.declared.kind.Kind.{Kind}
 use Rattle.mint.specs.declared.kind.Kind.TheVariants as kind
 use Rattle.mint.specs.declared.kind.Count.TheVariants.{Exactly, AtMost}
@@ -19,6 +17,7 @@ use Rattle.front_mig.specs.declared.meaning.Meaning.TheVariants as M
 use Rattle.front_mig.specs.declared.meaning.Form.{Form}
 use Rattle.front_mig.specs.declared.meaning.Form.TheVariants as F
 use Rattle.idl_names.specs.Answers.{Answer, fault, and_then, refused}
+use Rattle.idl_names.specs.Names.{meaning_of}
 use Rattle.idl_names.specs.Uses.{tag_of_use}
 use Rattle.front_mig.specs.Numbers.{value, length_of}
 
@@ -42,10 +41,6 @@ known =
     ∷ (codes "MACH_MSG_TYPE_COPY_SEND", M.Port)
     ∷ []
 
--- what a name stands for, if it is one of these: of two of one name the first counts
-abbrev pub meaning_in : List ℕ → Scope → Option Meaning
-meaning_in name scope = lookup (bytes_eq name) scope
-
 -- what is found, or Unknown
 abbrev pub found : ℕ → Option Meaning → Answer Meaning
 found d None = fault Unknown d
@@ -53,7 +48,7 @@ found d (Some m) = Ok m
 
 -- the type of a name; one that the file declares goes before a known one
 abbrev pub type_of : Scope → ℕ → List ℕ → Answer Meaning
-type_of scope d name = found d (meaning_in name (scope ++ known))
+type_of scope d name = found d (meaning_of name (scope ++ known))
 
 -- the size of a number in bits
 abbrev pub size_of : Kind → ℕ

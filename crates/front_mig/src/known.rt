@@ -1,7 +1,8 @@
 //! The types that are known before any declaration.
 
 ghost use Rattle.std.specs.Prelude.{◌≡◌};
-ghost use Rattle.front_mig.specs.Types.{known, meaning_in};
+ghost use Rattle.idl_names.specs.Names.{meaning_of};
+ghost use Rattle.front_mig.specs.Types.{known};
 
 use crate::Meaning;
 use idl_names::Use;
@@ -9,7 +10,7 @@ use mint::kind::Kind;
 
 /// What a known name stands for.
 pub(crate) fn known(name: &[u8]) -> Option<Meaning>
-    ensures { result ≡ meaning_in name.now known }
+    ensures { result ≡ meaning_of name.now known }
 {
     if name == b"char".as_slice() {
         return Some(Meaning::Data(Use::Number(Kind::Char)));

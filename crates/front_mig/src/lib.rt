@@ -3,7 +3,6 @@
 
 mod known;
 mod meaning;
-mod names;
 mod numbers;
 mod parameters;
 mod resolving;

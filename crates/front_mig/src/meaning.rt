@@ -1,6 +1,6 @@
 //! What names stand for, and what a `type` statement makes.
 
-use idl_names::Use;
+use idl_names::{Table, Use};
 use mint::kind::Count;
 
 /// What a name stands for.
@@ -12,6 +12,9 @@ pub enum Meaning {
     /// kind it is; a row has none.
     Data(Use),
 }
+
+/// The names of types that are declared, each with what it stands for.
+pub(crate) type Scope = Table<Meaning>;
 
 /// What a `type` statement makes.
 #[derive(Clone, Copy, Debug, PartialEq, Eq)]

@@ -3,12 +3,12 @@
 ghost use Rattle.std.specs.Prelude.{◌≡◌};
 ghost use Rattle.aoi.specs.declared.faults.NameFault.TheVariants.{Range};
 ghost use Rattle.idl_names.specs.Answers.{Gives};
-ghost use Rattle.front_mig.specs.Numbers.{in_range, leaf_value, value, length_of, base_of, ids_fit};
+ghost use Rattle.front_mig.specs.Numbers.{leaf_value, value, length_of, base_of, ids_fit};
 
 use crate::{NameErr, NameFault};
-use idl_const::{ConstErr, binary, unary};
+use idl_const::{binary, unary};
 use idl_exprs::{Expr, Leaf, Node};
-use idl_names::{natural, refuse};
+use idl_names::{in_range, natural, refuse};
 
 /// A number outside its range.
 pub(crate) fn range(decl: u32) -> NameErr
@@ -17,16 +17,6 @@ pub(crate) fn range(decl: u32) -> NameErr
     NameErr {
         fault: NameFault::Range,
         decl,
-    }
-}
-
-/// The number that an operator gives; where it gives none, the number is out of range.
-fn in_range(decl: u32, given: Result<i128, ConstErr>) -> Result<i128, NameErr>
-    ensures { result ≡ in_range decl given }
-{
-    match given {
-        Ok(n) => Ok(n),
-        Err(_) => Err(range(decl)),
     }
 }
 

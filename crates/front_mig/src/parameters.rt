@@ -7,7 +7,7 @@ ghost use Rattle.front_mig.specs.Held.{parameters_held};
 ghost use Rattle.idl_names.specs.Uses.{shape_of_use};
 ghost use Rattle.front_mig.specs.Routines.{goes_in, comes_out, is_requestport, is_port, port_on, with_field, parameter_on, parameters_on, parameters};
 
-use crate::names::Scope;
+use crate::meaning::Scope;
 use crate::types::{data_in, type_of};
 use crate::{Meaning, NameErr, NameFault};
 use aoi::{Field, Fields};

@@ -11,8 +11,9 @@ ghost use Rattle.front_mig.specs.Resolved.{stated, stated_on, resolved};
 use crate::NameErr;
 use crate::numbers::base_of;
 use crate::routines::{routine, type_};
-use crate::state::{Resolver, want};
+use crate::state::Resolver;
 use aoi::Unit;
+use idl_names::want;
 use mig_syntax::{Statement, Tree};
 use std::alloc::Global;
 

@@ -7,7 +7,8 @@ ghost use Rattle.aoi.specs.Shapes.{seen_field};
 ghost use Rattle.aoi.specs.Plain.{plain_operation};
 ghost use Rattle.idl_names.specs.Answers.{Gives};
 ghost use Rattle.front_mig.specs.Held.{state};
-ghost use Rattle.front_mig.specs.State.{with_form, type_on, is_declared};
+ghost use Rattle.idl_names.specs.Names.{is_declared};
+ghost use Rattle.front_mig.specs.State.{with_form, type_on};
 ghost use Rattle.front_mig.specs.Routines.{operation, routine_on};
 
 use crate::parameters::parameters;

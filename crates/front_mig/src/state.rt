@@ -6,17 +6,17 @@ ghost use Rattle.aoi.specs.Shapes.{seen};
 ghost use Rattle.aoi.specs.Plain.{plain, plain_operation};
 ghost use Rattle.aoi.specs.declared.faults.NameFault.TheVariants.{NoMemory as WantOfMemory};
 ghost use Rattle.idl_names.specs.Answers.{Gives};
-ghost use Rattle.idl_names.specs.Names.{has};
+ghost use Rattle.idl_names.specs.Names.{has, is_declared};
 ghost use Rattle.front_mig.specs.Held.{state};
 ghost use Rattle.front_mig.specs.Resolved.{unit_of};
 ghost use Rattle.front_mig.specs.Routines.{with_routine};
-ghost use Rattle.front_mig.specs.State.{start, is_declared, declared, with_type, skip_on};
+ghost use Rattle.front_mig.specs.State.{start, declared, with_type, skip_on};
 
-use crate::names::Scope;
+use crate::meaning::Scope;
 use crate::numbers::range;
-use crate::{Meaning, NameErr, NameFault};
+use crate::{Meaning, NameErr};
 use aoi::{Interface, Operation, Operations, Ty, Unit, UnitErr};
-use idl_names::{Names, Tag, Use};
+use idl_names::{Names, Tag, Use, want};
 use kit_base::{Name, NoMemory};
 use std::alloc::Global;
 use std::marker::Model;
@@ -47,16 +47,6 @@ impl Model for Resolver {
     ghost view = { λ r. record { scope = r.scope; unit = r.unit; names = r.names; ops = r.ops; slots = r.slots } };
 
     ghost invariant = { λ r. (r.unit.interfaces ≡ []) × (length r.ops ≤ most_operations) };
-}
-
-/// A fault that stands for out of memory.
-pub(crate) fn want() -> NameErr
-    ensures { result.fault ≡ WantOfMemory }
-{
-    NameErr {
-        fault: NameFault::NoMemory,
-        decl: 0,
-    }
 }
 
 impl Resolver {

@@ -1,10 +1,12 @@
 //! Types by their names, and what `type` statements make.
 
-ghost use Rattle.std.specs.Prelude.{◌≡◌};
+ghost use Rattle.std.specs.Prelude.{◌≡◌, ◌++◌};
 ghost use Rattle.idl_names.specs.Answers.{Gives};
-ghost use Rattle.front_mig.specs.Types.{found, type_of, size_of, kind_in, size_in, data_in, numbers_in, sized, plainly, row, form};
+ghost use Rattle.idl_names.specs.Names.{meaning_of};
+ghost use Rattle.front_mig.specs.Types.{known, found, type_of, size_of, kind_in, size_in, data_in, numbers_in, sized, plainly, row, form};
 
-use crate::names::Scope;
+use crate::known::known;
+use crate::meaning::Scope;
 use crate::numbers::{length_of, value};
 use crate::{Form, Meaning, NameErr, NameFault};
 use idl_exprs::Expr;
@@ -25,12 +27,23 @@ fn found(decl: u32, meaning: Option<Meaning>) -> Result<Meaning, NameErr>
     }
 }
 
+/// What a name stands for, if it is declared or known.
+#[tactic(auto, using(crate::proofs::Tables::joined))]
+fn meaning(scope: &Scope, name: &[u8]) -> Option<Meaning>
+    ensures { result ≡ meaning_of name.now (scope.now ++ known) }
+{
+    match scope.meaning(name) {
+        Some(meaning) => Some(meaning),
+        None => known(name),
+    }
+}
+
 /// The type of a name.
 pub(crate) fn type_of(scope: &Scope, decl: u32, name: &[u8]) -> Result<Meaning, NameErr>
     ensures value { Gives (λ x. x) result (type_of scope.now decl name.now) }
     ensures exact { result ≡ type_of scope.now decl name.now }
 {
-    found(decl, scope.meaning(name))
+    found(decl, meaning(scope, name))
 }
 
 /// The size of a number in bits.

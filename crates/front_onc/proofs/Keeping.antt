@@ -29,7 +29,8 @@ use Rattle.front_onc.specs.declared.meaning.Form.TheVariants as F
 use Rattle.front_onc.specs.declared.meaning.Meaning.{Meaning}
 use Rattle.front_onc.specs.declared.meaning.Meaning.TheVariants as M
 use Rattle.idl_names.specs.Answers.{refused, given}
-use Rattle.front_onc.specs.Names.{Scope, value, type_use, is_declared}
+use Rattle.idl_names.specs.Names.{is_declared}
+use Rattle.front_onc.specs.Names.{Scope, value, type_use}
 use Rattle.front_onc.specs.State.{State, counted, declared, with_type}
 use Rattle.front_onc.specs.Declarations.{form, shape, tag_of, name_of, exactly, at_most, typedef, members_on, struct_on}
 use Rattle.front_onc.specs.Enums.{is_item, items_on, enum_on}

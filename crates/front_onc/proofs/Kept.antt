@@ -2,22 +2,17 @@
 use Rattle.std.proofs.Common.{◌≡◌, ℕ, ℤ, false, List, [], ◌∷◌, ◌++◌, refl, sym, ap, subst, Option, ◌∙◌}
 use Rattle.std.specs.Prelude.{Ok}
 use Rattle.std.specs.Str.{bytes_eq}
-use Rattle.std.proofs.lemmas.Bool.{or_parts, or_from}
+use Rattle.std.proofs.lemmas.Bool.{or_parts}
 use Rattle.aoi.specs.declared.faults.NameFault.TheVariants.{Twice}
 use Rattle.onc_syntax.specs.declared.tree.Item.{Item}
-use Rattle.front_onc.specs.declared.meaning.Meaning.{Meaning}
 use Rattle.front_onc.specs.declared.meaning.Meaning.TheVariants.{Constant}
 use Rattle.idl_names.specs.Answers.{refused}
-use Rattle.front_onc.specs.Names.{Scope, is_declared}
+use Rattle.idl_names.specs.Names.{is_declared}
 use Rattle.front_onc.specs.State.{State, declared}
 use Rattle.front_onc.specs.Enums.{with_label, item_number, short, item_on, items_on, is_item}
 use Rattle.idl_names.proofs.Parts.{then_ok, ok_same}
+use Rattle.idl_names.proofs.Tables.{stays_undeclared}
 use Rattle.idl_names.specs.Labels.{labelled}
-
-pub not_after : (name : List ℕ) (scope : Scope) (n : List ℕ) (m : Meaning) → is_declared name scope ≡ false → bytes_eq name n ≡ false
-    → is_declared name (scope ++ (n, m) ∷ []) ≡ false
-not_after name [] n m a b = or_from _ _ b refl
-not_after name (e ∷ es) n m a b = let h = or_parts _ _ a in or_from _ _ h.0 (not_after name es n m h.1 b)
 
 pub label_scope : (d k place : ℕ) (s t : State) (n : ℤ) → with_label d k place s n ≡ Ok t → t.scope ≡ s.scope
 label_scope d k place s t n h = let x =
@@ -32,7 +27,7 @@ item_keeps name d k place s previous i r h old new =
     let c = then_ok (short d b.given) _ r b.rest in
     let e = then_ok (with_label d k place s c.given) _ r c.rest in
     let same = label_scope d k place s e.given c.given e.first in
-    let none = not_after name e.given.scope i.name _ (ap (is_declared name) same ∙ old) new in
+    let none = stays_undeclared name i.name (Constant c.given) e.given.scope (ap (is_declared name) same ∙ old) new in
     let made : State × ℤ = (declared i.name (Constant c.given) e.given, c.given) in
     subst (λ z. is_declared name z ≡ false) (ap (λ (z : State × ℤ). z.0.scope) (ok_same made r e.rest)) none
 

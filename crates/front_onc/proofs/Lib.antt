@@ -2,8 +2,6 @@
 
 -- Worked rows: what short files resolve to
 mod Rows
--- * Names in a map or a set of indexmap, as lists, by induction on the list
-pub mod Tables
 -- * Names that stay undeclared, by induction on the items
 pub mod Kept
 -- * A loop's step along a list

@@ -6,14 +6,14 @@ use Rattle.std.proofs.lemmas.Bool.{or_parts, or_from}
 use Rattle.aoi.specs.declared.faults.NameFault.TheVariants.{Twice}
 use Rattle.aoi.specs.Sound.{is_sound_enum, are_distinct}
 use Rattle.onc_syntax.specs.declared.tree.Item.{Item}
-use Rattle.idl_names.specs.Names.{has}
+use Rattle.idl_names.specs.Names.{has, is_declared}
 use Rattle.idl_names.specs.Lists.{is_some_list}
 use Rattle.idl_names.proofs.Tables.{append_map}
 use Rattle.idl_names.proofs.Forming.{some_push}
 use Rattle.front_onc.specs.declared.meaning.Meaning.{Meaning}
 use Rattle.front_onc.specs.declared.meaning.Meaning.TheVariants.{Constant}
 use Rattle.idl_names.specs.Answers.{Answer, refused}
-use Rattle.front_onc.specs.Names.{Scope, is_declared}
+use Rattle.front_onc.specs.Names.{Scope}
 use Rattle.front_onc.specs.State.{State, declared}
 use Rattle.front_onc.specs.Enums.{with_label, item_number, short, item_on, items_on}
 use Rattle.idl_names.proofs.Parts.{then_ok, refused_ok, ok_same}

@@ -1,6 +1,6 @@
 -- What the names in a scope stand for, over the types so far, by induction on the scope.
-use Rattle.std.proofs.Common.{◌≡◌, ℕ, ℤ, Bool, true, false, List, [], ◌∷◌, ◌++◌, length, Option, Some, None, subst, if◌then◌else◌}
-use Rattle.std.specs.Prelude.{Ok}
+use Rattle.std.proofs.Common.{◌≡◌, ℕ, ℤ, Bool, true, false, List, [], ◌∷◌, ◌++◌, length, Option, Some, None, subst}
+use Rattle.std.specs.Prelude.{Ok, cond}
 use Rattle.std.specs.Str.{bytes_eq}
 use Rattle.aoi.specs.Shapes.{Shape}
 use Rattle.onc_syntax.specs.declared.tree.TypeName.{TypeName}
@@ -8,7 +8,8 @@ use Rattle.onc_syntax.specs.declared.tree.TypeName.TheVariants as T
 use Rattle.idl_names.specs.declared.uses.Use.{Use}
 use Rattle.front_onc.specs.declared.meaning.Meaning.{Meaning}
 use Rattle.front_onc.specs.declared.meaning.Meaning.TheVariants as M
-use Rattle.front_onc.specs.Names.{Scope, meaning_of, use_of, type_use}
+use Rattle.idl_names.specs.Names.{meaning_of}
+use Rattle.front_onc.specs.Names.{Scope, use_of, type_use}
 use Rattle.idl_names.proofs.Parts.{ok_same}
 use Rattle.idl_names.proofs.Standing.{UseIs, FewerBelow, use_grow}
 
@@ -51,7 +52,7 @@ MeaningAt types labels (Some m) = MeaningIs types labels m
 
 meaning_here : (types : List Shape) (labels : List (ℕ × ℤ)) (b : Bool) (m : Meaning) (o : Option Meaning)
     → MeaningIs types labels m → MeaningAt types labels o
-    → MeaningAt types labels (if b then Some m else o)
+    → MeaningAt types labels (cond b (Some m) o)
 meaning_here types labels true m o h r = h
 meaning_here types labels false m o h r = r
 

@@ -11,12 +11,12 @@ use Rattle.onc_syntax.specs.declared.tree.Decl.TheVariants as D
 use Rattle.onc_syntax.specs.declared.tree.Member.{Member}
 use Rattle.idl_names.specs.declared.uses.Tag.{Tag}
 use Rattle.idl_names.specs.declared.uses.Tag.TheVariants as tag
-use Rattle.idl_names.specs.Names.{has}
+use Rattle.idl_names.specs.Names.{has, is_declared}
 use Rattle.front_onc.specs.declared.meaning.Form.{Form}
 use Rattle.front_onc.specs.declared.meaning.Form.TheVariants as F
 use Rattle.idl_names.specs.Answers.{Answer, and_then, refused, natural}
 use Rattle.idl_names.specs.Uses.{shape_of_use, tag_of_use}
-use Rattle.front_onc.specs.Names.{Scope, is_declared, value, type_use}
+use Rattle.front_onc.specs.Names.{Scope, value, type_use}
 use Rattle.front_onc.specs.State.{State, with_type}
 
 -- the name that a declaration declares

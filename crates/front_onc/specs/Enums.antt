@@ -12,7 +12,8 @@ use Rattle.idl_names.specs.declared.uses.Tag.TheVariants as tag
 use Rattle.front_onc.specs.declared.meaning.Meaning.TheVariants as M
 use Rattle.idl_names.specs.Answers.{Answer, fault, and_then, refused}
 use Rattle.idl_names.specs.Labels.{labelled}
-use Rattle.front_onc.specs.Names.{Scope, is_declared, value}
+use Rattle.idl_names.specs.Names.{is_declared}
+use Rattle.front_onc.specs.Names.{Scope, value}
 use Rattle.front_onc.specs.State.{State, declared, with_type}
 
 -- the number after the previous one, or 0

@@ -1,6 +1,5 @@
 -- What names stand for.
-use Rattle.std.specs.Prelude.{Bool, true, false, nat_lt, ◌^◌, ℕ, ℤ, pos, negsuc, neg_ℤ, List, [], ◌∷◌, map, codes, Option, Some, None, Ok, if◌then◌else◌}
-use Rattle.std.specs.Str.{bytes_eq}
+use Rattle.std.specs.Prelude.{Bool, true, false, nat_lt, ◌^◌, ℕ, ℤ, pos, negsuc, neg_ℤ, List, [], ◌∷◌, codes, Option, Some, None, Ok, if◌then◌else◌}
 use Rattle.mint.specs.declared.kind.Kind.{Kind}
 use Rattle.mint.specs.declared.kind.Kind.TheVariants as kind
 use Rattle.aoi.specs.declared.faults.NameFault.TheVariants.{Unknown, NotType, NotConst, Range, OutOfScope}
@@ -15,7 +14,7 @@ use Rattle.idl_names.specs.declared.uses.Use.TheVariants.{Number}
 use Rattle.front_onc.specs.declared.meaning.Meaning.{Meaning}
 use Rattle.front_onc.specs.declared.meaning.Meaning.TheVariants as M
 use Rattle.idl_names.specs.Answers.{Answer, fault}
-use Rattle.idl_names.specs.Names.{has}
+use Rattle.idl_names.specs.Names.{meaning_of}
 
 -- names in the order of their declarations, each with what it stands for
 abbrev pub Scope : Type 0
@@ -34,15 +33,6 @@ known =
     ∷ (codes "double", M.LeftOut)
     ∷ (codes "quadruple", M.LeftOut)
     ∷ []
-
--- a name is declared
-abbrev pub is_declared : List ℕ → Scope → Bool
-is_declared name scope = has name (map (λ e. e.0) scope)
-
--- what a name stands for, if it is declared
-abbrev pub meaning_of : List ℕ → Scope → Option Meaning
-meaning_of name [] = None
-meaning_of name (e ∷ es) = if bytes_eq name e.0 then Some e.1 else meaning_of name es
 
 -- ---- values
 

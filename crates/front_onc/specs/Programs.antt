@@ -13,11 +13,11 @@ use Rattle.onc_syntax.specs.declared.tree.ProcType.{ProcType}
 use Rattle.onc_syntax.specs.declared.tree.ProcType.TheVariants as P
 use Rattle.onc_syntax.specs.declared.tree.Procedure.{Procedure}
 use Rattle.onc_syntax.specs.declared.tree.Version.{Version}
-use Rattle.idl_names.specs.Names.{has}
+use Rattle.idl_names.specs.Names.{has, is_declared}
 use Rattle.idl_names.specs.Uses.{shape_of_use}
 use Rattle.front_onc.specs.declared.meaning.Meaning.TheVariants as M
 use Rattle.idl_names.specs.Answers.{Answer, fault, and_then, given, refused, natural}
-use Rattle.front_onc.specs.Names.{Scope, is_declared, value, type_use}
+use Rattle.front_onc.specs.Names.{Scope, value, type_use}
 use Rattle.front_onc.specs.State.{State, counted, declared}
 
 -- the number of a program, a version or a procedure

@@ -10,7 +10,8 @@ use Rattle.onc_syntax.specs.declared.tree.Def.TheVariants as D
 use Rattle.front_onc.specs.declared.meaning.Meaning.TheVariants as M
 use Rattle.idl_names.specs.Answers.{Answer, and_then, refused}
 use Rattle.idl_names.specs.Lists.{is_some_list}
-use Rattle.front_onc.specs.Names.{known, is_declared, value}
+use Rattle.idl_names.specs.Names.{is_declared}
+use Rattle.front_onc.specs.Names.{known, value}
 use Rattle.front_onc.specs.State.{State, counted, declared}
 use Rattle.front_onc.specs.Declarations.{typedef, struct_on}
 use Rattle.front_onc.specs.Enums.{enum_on}

@@ -10,13 +10,13 @@ use Rattle.onc_syntax.specs.declared.tree.Union.{Union}
 use Rattle.idl_names.specs.declared.uses.Tag.{Tag}
 use Rattle.idl_names.specs.declared.uses.Tag.TheVariants as tag
 use Rattle.idl_names.specs.declared.uses.Use.{Use}
-use Rattle.idl_names.specs.Names.{has}
+use Rattle.idl_names.specs.Names.{has, is_declared}
 use Rattle.idl_names.specs.Uses.{shape_of_use, tag_of_use, is_other}
 use Rattle.front_onc.specs.declared.meaning.Form.{Form}
 use Rattle.idl_names.specs.Answers.{Answer, and_then, refused}
 use Rattle.idl_names.specs.Labels.{numbered}
 use Rattle.idl_names.specs.Arms.{with_arm}
-use Rattle.front_onc.specs.Names.{Scope, is_declared, value, type_use}
+use Rattle.front_onc.specs.Names.{Scope, value, type_use}
 use Rattle.front_onc.specs.State.{State, with_type}
 use Rattle.front_onc.specs.Declarations.{name_of, form, shape}
 

@@ -5,7 +5,7 @@ ghost use Rattle.idl_names.specs.Answers.{Gives};
 ghost use Rattle.front_onc.specs.Held.{state};
 ghost use Rattle.front_onc.specs.Enums.{next, item_number, short, item_on, items_on, is_item, enum_on};
 
-use crate::names::Scope;
+use crate::meaning::Scope;
 use crate::state::Resolver;
 use crate::values::value;
 use crate::{Meaning, NameErr, NameFault, Tag};

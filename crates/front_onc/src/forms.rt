@@ -5,7 +5,7 @@ ghost use Rattle.aoi.specs.Shapes.{seen};
 ghost use Rattle.idl_names.specs.Answers.{Gives};
 ghost use Rattle.front_onc.specs.Declarations.{form, name_of, shape, tag_of};
 
-use crate::names::Scope;
+use crate::meaning::Scope;
 use crate::values::{at_most, exactly, type_use};
 use crate::{Form, NameErr, NameFault, Tag};
 use aoi::Ty;

@@ -4,7 +4,6 @@
 mod enums;
 mod forms;
 mod meaning;
-mod names;
 mod procedures;
 mod programs;
 mod resolving;

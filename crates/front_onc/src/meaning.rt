@@ -1,6 +1,6 @@
 //! What names stand for, and what a declaration makes of a type.
 
-use idl_names::Use;
+use idl_names::{Table, Use};
 use mint::kind::Count;
 
 /// What a name stands for.
@@ -15,6 +15,9 @@ pub enum Meaning {
     /// A type of the language that no unit has.
     LeftOut,
 }
+
+/// The names that are declared, each with what it stands for.
+pub(crate) type Scope = Table<Meaning>;
 
 /// What a declaration makes of the type that it uses.
 #[derive(Clone, Copy, Debug, PartialEq, Eq)]

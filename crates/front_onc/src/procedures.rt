@@ -8,7 +8,7 @@ ghost use Rattle.idl_names.specs.Answers.{Gives};
 ghost use Rattle.front_onc.specs.Held.{state};
 ghost use Rattle.front_onc.specs.Programs.{result_of, parameter, argument, parameters_on, is_void, parameters, procedure_on, procedures_on, operation, operations};
 
-use crate::names::Scope;
+use crate::meaning::Scope;
 use crate::state::Resolver;
 use crate::values::{number_of, type_use};
 use crate::{NameErr, NameFault};

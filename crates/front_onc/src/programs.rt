@@ -9,11 +9,11 @@ ghost use Rattle.front_onc.specs.Held.{state};
 ghost use Rattle.front_onc.specs.Programs.{interface, number_of, version_offered, version_on, versions_on, program_on};
 
 use crate::procedures::operations;
-use crate::state::{Resolver, want};
+use crate::state::Resolver;
 use crate::values::number_of;
 use crate::{Meaning, NameErr, NameFault};
 use aoi::{Interface, Operations};
-use idl_names::{Names, refuse};
+use idl_names::{Names, refuse, want};
 use kit_base::limits::MOST_INTERFACES;
 use kit_base::{Name, NoMemory};
 use onc_syntax::{Value, Version};

@@ -13,7 +13,7 @@ ghost use Rattle.front_onc.specs.Names.{known};
 ghost use Rattle.front_onc.specs.Resolved.{const_on, defined, defined_on, resolved, IsWhole};
 
 use crate::enums::enum_;
-use crate::names::Scope;
+use crate::meaning::Scope;
 use crate::programs::program;
 use crate::state::Resolver;
 use crate::structs::{struct_, typedef};

@@ -5,7 +5,7 @@ ghost use Rattle.kit_base.specs.Limits.{most_interfaces, most_operations};
 ghost use Rattle.aoi.specs.Shapes.{seen};
 ghost use Rattle.aoi.specs.Plain.{plain_interface};
 ghost use Rattle.idl_names.specs.Answers.{Gives};
-ghost use Rattle.front_onc.specs.Names.{is_declared};
+ghost use Rattle.idl_names.specs.Names.{is_declared};
 ghost use Rattle.front_onc.specs.Held.{state};
 ghost use Rattle.front_onc.specs.Programs.{offered};
 ghost use Rattle.front_onc.specs.Resolved.{start};
@@ -13,10 +13,10 @@ ghost use Rattle.front_onc.specs.State.{counted, declared, with_type};
 ghost use Rattle.front_onc.specs.Enums.{with_label};
 ghost use Rattle.aoi.specs.declared.faults.NameFault.TheVariants.{NoMemory as WantOfMemory};
 
-use crate::names::Scope;
+use crate::meaning::Scope;
 use crate::{Meaning, NameErr, NameFault, Tag, Use};
 use aoi::{Interface, Ty, Unit, UnitErr};
-use idl_names::add_label;
+use idl_names::{add_label, want};
 use indexmap::IndexSet;
 use kit_base::{Name, NoMemory};
 use std::alloc::Global;
@@ -47,16 +47,6 @@ impl Model for Resolver {
     ghost view = { λ r. record { scope = r.scope; labels = r.labels.keys; unit = r.unit; versions = r.versions; count = r.count } };
 
     ghost invariant = { λ r. length r.unit.interfaces ≤ r.versions };
-}
-
-/// A fault that stands for being out of memory.
-pub(crate) fn want() -> NameErr
-    ensures { result.fault ≡ WantOfMemory }
-{
-    NameErr {
-        fault: NameFault::NoMemory,
-        decl: 0,
-    }
 }
 
 impl Resolver {

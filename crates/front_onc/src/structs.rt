@@ -7,7 +7,7 @@ ghost use Rattle.front_onc.specs.Held.{state};
 ghost use Rattle.front_onc.specs.Declarations.{members_on, shape, typedef, struct_on};
 
 use crate::forms::{form, name_of, tag_of, ty};
-use crate::names::Scope;
+use crate::meaning::Scope;
 use crate::state::Resolver;
 use crate::{Form, NameErr, NameFault, Tag};
 use aoi::{Field, Fields};

@@ -9,7 +9,7 @@ ghost use Rattle.front_onc.specs.Held.{state};
 ghost use Rattle.front_onc.specs.Unions.{label_on, labels_on, arm_shape, arm_on, case_on, cases_on, other, union_shape, union_on};
 
 use crate::forms::{form, name_of, ty};
-use crate::names::Scope;
+use crate::meaning::Scope;
 use crate::state::Resolver;
 use crate::values::{type_use, value};
 use crate::{Form, NameErr, NameFault, Tag, Use};

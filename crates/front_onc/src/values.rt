@@ -6,7 +6,7 @@ ghost use Rattle.front_onc.specs.Names.{value, signed, constant, kind_of, use_of
 ghost use Rattle.front_onc.specs.Declarations.{exactly, at_most};
 ghost use Rattle.front_onc.specs.Programs.{number_of};
 
-use crate::names::Scope;
+use crate::meaning::Scope;
 use crate::{Meaning, NameErr, NameFault, Use};
 use idl_names::natural;
 use mint::kind::{Count, Kind};

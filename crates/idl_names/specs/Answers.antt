@@ -1,5 +1,6 @@
 -- What a production gives, or its first fault.
 use Rattle.std.specs.Prelude.{◌≡◌, ◌⊎◌, Bool, true, false, nat_le, nat_lt, ◌&&◌, ◌^◌, ℕ, ℤ, pos, negsuc, Option, Some, None, Result, Ok, Err, if◌then◌else◌}
+use Rattle.idl_const.specs.declared.value.ConstErr.{ConstErr}
 use Rattle.aoi.specs.declared.faults.NameErr.{NameErr}
 use Rattle.aoi.specs.declared.faults.NameFault.{NameFault}
 use Rattle.aoi.specs.declared.faults.NameFault.TheVariants.{Range, NoMemory}
@@ -31,6 +32,11 @@ refused f d false = Ok tt
 abbrev pub natural : ℕ → ℕ → ℤ → Answer ℕ
 natural low d (pos n) = if nat_le low n && nat_lt n (2 ^ 32) then Ok n else fault Range d
 natural low d (negsuc n) = fault Range d
+
+-- what an operator gives; where it gives nothing, the number is out of range
+abbrev pub in_range : ℕ → Result ℤ ConstErr → Answer ℤ
+in_range d (Ok n) = Ok n
+in_range d (Err e) = fault Range d
 
 -- A function's fault is the first one, unless memory ran out.
 abbrev pub Fails : {A : Type 0} → NameErr → Answer A → Type 0

@@ -1,9 +1,21 @@
 //! Faults, and the numbers that are none.
 
 ghost use Rattle.std.specs.Prelude.{◌≡◌};
-ghost use Rattle.idl_names.specs.Answers.{Gives, natural, refused};
+ghost use Rattle.aoi.specs.declared.faults.NameFault.TheVariants.{NoMemory as WantOfMemory};
+ghost use Rattle.idl_names.specs.Answers.{Gives, in_range, natural, refused};
 
 use aoi::{NameErr, NameFault};
+use idl_const::ConstErr;
+
+/// The fault of out of memory, which is in no declaration.
+pub fn want() -> NameErr
+    ensures { result.fault ≡ WantOfMemory }
+{
+    NameErr {
+        fault: NameFault::NoMemory,
+        decl: 0,
+    }
+}
 
 /// A fault in a declaration, where something holds.
 pub fn refuse(fault: NameFault, decl: u32, holds: bool) -> Result<(), NameErr>
@@ -28,4 +40,18 @@ pub fn natural(low: u32, decl: u32, n: i128) -> Result<u32, NameErr>
         });
     }
     Ok(n as u32)
+}
+
+/// The number that an operator gives; where it gives none, the number is out of range.
+pub fn in_range(decl: u32, given: Result<i128, ConstErr>) -> Result<i128, NameErr>
+    ensures value { Gives (λ x. x) result (in_range decl given) }
+    ensures exact { result ≡ in_range decl given }
+{
+    match given {
+        Ok(n) => Ok(n),
+        Err(_) => Err(NameErr {
+            fault: NameFault::Range,
+            decl,
+        }),
+    }
 }

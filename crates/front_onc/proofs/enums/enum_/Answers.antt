@@ -1,5 +1,5 @@
 use Rattle.std.proofs.Common.{◌∙◌, sym, ap}
-use Rattle.front_onc.specs.Names.{is_declared}
+use Rattle.idl_names.specs.Names.{is_declared}
 use Rattle.front_onc.proofs.Kept.{items_keep}
 use Rattle.front_onc.proofs.enums.enum_.Goals as goal
 

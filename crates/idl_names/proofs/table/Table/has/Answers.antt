@@ -1,9 +1,9 @@
 use Rattle.std.proofs.Common.{◌∙◌, ap}
-use Rattle.front_onc.specs.Names.{is_declared}
-use Rattle.front_onc.proofs.Tables.{declared_map}
-use Rattle.front_onc.proofs.names.Scope.has.Goals as goal
+use Rattle.idl_names.specs.Names.{is_declared}
+use Rattle.idl_names.proofs.Tables.{declared_map}
+use Rattle.idl_names.proofs.table.Table.has.Goals as goal
 
 pub returns : goal.returns
-returns c =
+returns g c =
     c.contains_key.ensures ∙ declared_map
     (λ k. k.items) c.args.name.now c.self.inside.meanings.entries ∙ ap (is_declared c.args.name.now) c.self.view_is

@@ -1,66 +1,62 @@
-//! Names in the order of their declarations.
+//! Names of one place, each with what it stands for.
 
 ghost use Rattle.std.specs.Prelude.{◌≡◌, [], ◌∷◌, ◌++◌, false, OnOk};
-ghost use Rattle.front_onc.specs.Names.{is_declared, meaning_of};
+ghost use Rattle.idl_names.specs.Names.{is_declared, meaning_of};
 
-use crate::Meaning;
 use indexmap::IndexMap;
 use kit_base::NoMemory;
 use std::alloc::Global;
 use std::marker::Model;
 
-/// The names that are declared, each with what it stands for.
+/// Names in the order of their declarations, each different from the others, with what each stands for.
 #[derive(Drop)]
-pub(crate) struct Scope {
-    meanings: IndexMap<Vec<u8>, Meaning>,
+pub struct Table<M> {
+    meanings: IndexMap<Vec<u8>, M>,
 }
 
-impl Model for Scope {
+impl<M> Model for Table<M> {
     ghost use Rattle.std.specs.Prelude.{List, ℕ, map};
-    ghost use Rattle.std.specs.Coded.{codes};
-    ghost use Rattle.front_onc.specs.Names.{Scope as Declared};
+    ghost use Rattle.std.specs.Coded.{codes, coded×, coded_list, coded_ℕ};
 
-    ghost Value = { Declared };
+    ghost Value = { List (List ℕ × M) };
 
-    ghost view = { λ s. map (λ e. (e.0.items, e.1)) s.meanings.entries };
+    ghost coded = { coded_list (coded× (coded_list coded_ℕ) M.code) };
+
+    ghost view = { λ t. map (λ e. (e.0.items, e.1)) t.meanings.entries };
 }
 
-impl Scope {
+impl<M> Table<M> {
     /// No names.
-    pub(crate) fn new(alloc: Global) -> Scope
+    pub fn new(alloc: Global) -> Table<M>
         ensures { result ≡ [] }
     {
-        Scope {
+        Table {
             meanings: IndexMap::new(alloc),
         }
     }
+}
 
+impl<M: Copy> Table<M> {
     /// Whether a name is declared.
-    pub(crate) fn has(&self, name: &[u8]) -> bool
+    pub fn has(&self, name: &[u8]) -> bool
         ensures { result ≡ is_declared name.now self.now }
     {
         self.meanings.contains_key(name)
     }
 
     /// What a name stands for, if it is declared.
-    pub(crate) fn meaning(&self, name: &[u8]) -> Option<Meaning>
+    pub fn meaning(&self, name: &[u8]) -> Option<M>
         ensures { result ≡ meaning_of name.now self.now }
     {
         self.meanings.get(name).copied()
     }
 
     /// Declares a name.
-    pub(crate) fn declare(
-        &mut self,
-        alloc: Global,
-        name: &[u8],
-        meaning: Meaning,
-    ) -> Result<(), NoMemory>
+    pub fn declare(&mut self, alloc: Global, name: &[u8], meaning: M) -> Result<(), NoMemory>
         requires { is_declared name.now self.old ≡ false }
         ensures ok { OnOk result (self.new ≡ self.old ++ (name.now, meaning) ∷ []) }
     {
-        let mut key = Vec::new(alloc);
-        key.extend_from_slice(name)?;
+        let key = Vec::from_slice(alloc, name)?;
         self.meanings.insert(key, meaning)?;
         Ok(())
     }
