@@ -16,7 +16,7 @@ pub mod Chunking
 pub mod Skeleton
 -- In chunked code at most seven chunks and aligns stand together: each align that is kept makes a greater multiple known
 pub mod Shortness
--- Code whose runs are short moves as often as is allowed for its runs at most; chunked code is allowed no more, by induction on the block
+-- Code whose runs are short moves as often as is allowed for them at most; chunked code is allowed no more, by induction on the block
 pub mod Moves
 -- * What is promised of chunked code, from what it is
 pub mod Clauses

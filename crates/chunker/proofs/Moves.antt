@@ -1,5 +1,4 @@
--- Code whose runs are short moves as often as is allowed for its runs at most; chunked code is allowed no more than the code
--- that it is made of, both by induction on the block.
+-- Code whose runs are short moves as often as is allowed for them at most; chunked code is allowed no more, by induction on the block.
 use Rattle.std.proofs.Common.{◌≡◌, ℕ, zero, suc, ◌+◌, ◌*◌, ◌≤◌, ℤ, List, [], ◌∷◌, ◌++◌, length, map, Option, Some, None, Bool, true, false, if◌then◌else◌, refl, ap, subst, arith}
 use Rattle.std.specs.Ordering.{int_eq}
 use Rattle.mint.specs.Values.{Val, Vals, no_more, val, absent, present, arm_in, row_in}
@@ -270,7 +269,8 @@ module _ (e d : Begins) (less : (k : ℕ) (w : Val) → d k w ≤ e k w) where
     after_chunked : (b : Block) (ph : Phase) (n : ℕ) (ps : List Put) (v : Val)
         → moves_after 7 d (chunked ph n ps b) v ≤ moves_after 7 e b v
     after_chunked stop ph n ps v = after_closed n ps stop v 0 (omega arith)
-    after_chunked (ensure k r) ph n ps v = after_closed n ps (ensure k (chunked ph 0 [] r)) v (moves_in 7 e r v) (whole_less r ph v (after_chunked r ph 0 [] v))
+    after_chunked (ensure k r) ph n ps v =
+        after_closed n ps (ensure k (chunked ph 0 [] r)) v (moves_in 7 e r v) (whole_less r ph v (after_chunked r ph 0 [] v))
     after_chunked (ensure_row q u x r) ph n ps v =
         after_closed n ps (ensure_row q u x (chunked ph 0 [] r)) v (moves_in 7 e r v) (whole_less r ph v (after_chunked r ph 0 [] v))
     after_chunked (align a r) ph n ps v =
@@ -283,9 +283,11 @@ module _ (e d : Begins) (less : (k : ℕ) (w : Val) → d k w ≤ e k w) where
         (after_chunked r ph n ps v)
     after_chunked (chunk s qs r) ph n ps v = after_chunked r (shift ph s) (n + s) (ps ++ map (moved n) qs) v
     after_chunked (row_copy q r) ph n ps v =
-        after_closed n ps (row_copy q (chunked unknown 0 [] r)) v (moves_in 7 e r v) (whole_less r unknown v (after_chunked r unknown 0 [] v))
+        after_closed n ps (row_copy q (chunked unknown 0 [] r)) v (moves_in 7 e r v)
+        (whole_less r unknown v (after_chunked r unknown 0 [] v))
     after_chunked (row_swap q r) ph n ps v =
-        after_closed n ps (row_swap q (chunked unknown 0 [] r)) v (moves_in 7 e r v) (whole_less r unknown v (after_chunked r unknown 0 [] v))
+        after_closed n ps (row_swap q (chunked unknown 0 [] r)) v (moves_in 7 e r v)
+        (whole_less r unknown v (after_chunked r unknown 0 [] v))
     after_chunked (row_wide q o r) ph n ps v =
         let rest = whole_less r (by_fours ph) v (after_chunked r (by_fours ph) 0 [] v) in
         after_closed n ps (row_wide q o (chunked (by_fours ph) 0 [] r)) v (suc (moves_in 7 e r v)) (omega (arith, rest))
@@ -296,7 +298,8 @@ module _ (e d : Begins) (less : (k : ℕ) (w : Val) → d k w ≤ e k w) where
         (both_less (of_some (on_some (at q v) elements_in) (of_each (moves_in 7 d (chunked s 0 [] b)))) (moves_in 7 d (chunked s 0 [] r) v)
         (of_some (on_some (at q v) elements_in) (of_each (moves_in 7 e b))) (moves_in 7 e r v)
         (some_less (on_some (at q v) elements_in) (of_each (moves_in 7 d (chunked s 0 [] b))) (of_each (moves_in 7 e b))
-        (each_less (moves_in 7 d (chunked s 0 [] b)) (moves_in 7 e b) (λ w. whole_less b s w (after_chunked b s 0 [] w)))) (whole_less r s v (after_chunked r s 0 [] v)))
+        (each_less (moves_in 7 d (chunked s 0 [] b)) (moves_in 7 e b) (λ w. whole_less b s w (after_chunked b s 0 [] w))))
+        (whole_less r s v (after_chunked r s 0 [] v)))
     after_chunked (switch q cs r) ph n ps v =
         let s = switched ph cs in
         after_closed n ps (switch q (cases_chunked ph cs) (chunked s 0 [] r)) v
@@ -312,7 +315,8 @@ module _ (e d : Begins) (less : (k : ℕ) (w : Val) → d k w ≤ e k w) where
         (both_less (of_some (at q v) (of_present (moves_in 7 d (chunked ph 0 [] b)))) (moves_in 7 d (chunked s 0 [] r) v)
         (of_some (at q v) (of_present (moves_in 7 e b))) (moves_in 7 e r v)
         (some_less (at q v) (of_present (moves_in 7 d (chunked ph 0 [] b))) (of_present (moves_in 7 e b))
-        (present_less (moves_in 7 d (chunked ph 0 [] b)) (moves_in 7 e b) (λ w. whole_less b ph w (after_chunked b ph 0 [] w)))) (whole_less r s v (after_chunked r s 0 [] v)))
+        (present_less (moves_in 7 d (chunked ph 0 [] b)) (moves_in 7 e b) (λ w. whole_less b ph w (after_chunked b ph 0 [] w))))
+        (whole_less r s v (after_chunked r s 0 [] v)))
     after_chunked (call k q r) ph n ps v =
         after_closed n ps (call k q (chunked unknown 0 [] r)) v (of_some (at q v) (e k) + moves_in 7 e r v)
         (both_less (of_some (at q v) (d k)) (moves_in 7 d (chunked unknown 0 [] r) v) (of_some (at q v) (e k)) (moves_in 7 e r v)

@@ -15,14 +15,14 @@ use Rattle.wire_def.specs.declared.head.Head.{Head}
 use Rattle.wire_def.specs.declared.head.Order.{Order}
 use Rattle.wire_def.specs.Arrays.{kind_of}
 use Rattle.cast_stub.specs.Append.{append}
-use Rattle.cast_stub.specs.Block.{Block, stop, ensure, ensure_row, align, chunk, row_copy, row_swap, row_wide, each, switch, if_there, call, patch, Cases, no_default, default, case}
-use Rattle.cast_stub.specs.Entries.{numbers_in, array_entries, inner_entries, fields_entries, arm_entries, entries, is_whole, array_leaves, leaves, fields_leaves, arm_leaves}
+use Rattle.cast_stub.specs.Block.{Block, stop, align, chunk, row_copy, row_swap, row_wide, each, switch, if_there, patch, Cases}
+use Rattle.cast_stub.specs.Entries.{array_entries, inner_entries, fields_entries, arm_entries, entries, is_whole, array_leaves, leaves, fields_leaves, arm_leaves}
 use Rattle.cast_stub.specs.Follows.{flat, own_put, IsCount, FollowsBy, FieldsFollowBy, ArmsFollowBy}
 use Rattle.cast_stub.specs.Framed.{IsTail}
 use Rattle.cast_stub.specs.Kept.{unensured}
 use Rattle.cast_stub.specs.Layouts.{order_of, layout_of, element_width, is_looped}
 use Rattle.cast_stub.specs.Meaning.{costs}
-use Rattle.cast_stub.specs.Met.{met, Begins, of_some, of_each, of_present, first_run, moves_after, case_moves, moves_in}
+use Rattle.cast_stub.specs.Met.{met, Begins, of_some, of_each, of_present, moves_after, case_moves, moves_in}
 use Rattle.cast_stub.specs.PartTypes.{ty_at, present_type, present_at, arms_type, arms_at}
 use Rattle.cast_stub.specs.Parts.{on_some, at, elements_in}
 use Rattle.cast_stub.specs.Puts.{filled}
@@ -135,7 +135,8 @@ module _ (c : Calls) (h : Head) (g : Begins) where
   abbrev loop_stores : Bool → List ℤ → ℕ
   loop_stores whole ns = if whole then 0 else 3 * length ns
 
-  turn_moves : (turn : Block) (l : ℕ) → flat turn ≡ Some l → (ns : List ℤ) → of_each (moves_in 7 g turn) (vals_of (map num ns)) ≤ 7 * length ns
+  turn_moves : (turn : Block) (l : ℕ) → flat turn ≡ Some l → (ns : List ℤ)
+      → of_each (moves_in 7 g turn) (vals_of (map num ns)) ≤ 7 * length ns
   turn_moves turn l f [] = omega arith
   turn_moves turn l f (n ∷ ns) =
       let none = flat_after turn l (num n) f in

@@ -1,24 +1,19 @@
 -- What requests and replies cost by the codes that are kept.
-use Rattle.std.proofs.Common.{◌≡◌, ◌<◌, ℕ, List, length, Option, None, Some, option_map, IfSome, slice_get, refl, ap, subst, ◌∙◌, arith}
-use Rattle.mint.specs.Types.{Ty}
+use Rattle.std.proofs.Common.{◌≡◌, ◌<◌, ℕ, length, Option, Some, slice_get, ap, ◌∙◌, arith}
 use Rattle.mint.specs.Typed.{IsWellTyped}
 use Rattle.mint.specs.Values.{Val}
-use Rattle.wire_def.specs.declared.encoding.Back.{Back}
 use Rattle.wire_def.specs.declared.head.Head.{Head}
 use Rattle.cast_stub.specs.declared.send.SendCode.{SendCode}
-use Rattle.cast_stub.specs.Meaning.{Cost, cost, costs, AreCovered}
+use Rattle.cast_stub.specs.Meaning.{cost}
 use Rattle.cast_stub.specs.Parts.{on_some}
 use Rattle.cast_stub.specs.Puts.{IsHead}
-use Rattle.cast_stub.specs.Steps.{Step}
-use Rattle.cast_stub.specs.Subs.{sent_steps}
 use Rattle.stub_codes.specs.declared.stub.Stub.{Stub}
-use Rattle.stub_codes.specs.Backs.{encoding, lead, reply_lead}
+use Rattle.stub_codes.specs.Backs.{reply_lead}
 use Rattle.stub_codes.specs.Laws.{RequestsHaveCosts, RepliesHaveCosts}
 use Rattle.stub_codes.specs.Messages.{request_type}
 use Rattle.stub_codes.specs.Replies.{arm_type}
 use Rattle.stub_codes.specs.Sending.{Sends}
 use Rattle.stub_codes.specs.Stubs.{Coded, IsStub, IsSparingReply, IsSparingRequest, reply_code_at}
-use Rattle.stub_codes.specs.Within.{HasCostWithin, IsWithin}
 use Rattle.stub_codes.proofs.Done.{kept_at}
 use Rattle.stub_codes.proofs.Places.{item_at}
 

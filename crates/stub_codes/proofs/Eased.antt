@@ -123,7 +123,8 @@ first_bare _ = omega arith
 
 module _ (c : Calls) (h : Head) (e : Begins) where
   -- with the run that a block begins with
-  eases_in : (b : Block) (v : Val) → Eases (steps c h b v) (steps c h (unensured b) v) (moves_after 7 e b v) (moves_after 7 e (unensured b) v)
+  eases_in : (b : Block) (v : Val)
+      → Eases (steps c h b v) (steps c h (unensured b) v) (moves_after 7 e b v) (moves_after 7 e (unensured b) v)
       → Eases (steps c h b v) (steps c h (unensured b) v) (moves_in 7 e b v) (moves_in 7 e (unensured b) v)
   eases_in b v f =
       eases_add (steps c h b v) (steps c h (unensured b) v) (moves_after 7 e b v) (moves_after 7 e (unensured b) v) (first_run 7 b)
