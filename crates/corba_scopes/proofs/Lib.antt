@@ -4,5 +4,5 @@
 mod Rows
 -- * Names in a map or a set of indexmap, as lists, by induction on the list
 pub mod Keyed
--- What holds of everything that names stand for, and what stays when a name is declared, by induction on the names
+-- What holds of everything that names stand for, by induction on the names
 pub mod Standing

@@ -2,7 +2,7 @@
 
 -- What is known of the parts of an answer
 pub mod Parts
--- * Names and numbers in a set of indexmap, as lists, by induction on the list
+-- * Names and numbers in a set or a map of indexmap, as lists, by induction on the list
 pub mod Tables
 -- A loop's step along a list
 pub mod Steps
