@@ -27,7 +27,7 @@ NAMES = {"onc": ("Unknown", "Twice", "NotType", "NotConst", "Range", "Label", "L
 def saying_of(front):
     """The lines by which a file in a language is refused."""
     return re.compile(rf"\? (size|lex (?:BadOctet|OpenComment|Wide|Directive) {NUMBER}|syntax {NUMBER}|"
-                      rf"name (?:{'|'.join(NAMES[front])}) {NUMBER}|bind (?:Many|Deep|Heavy|Wide{'|Raises' if front == 'corba' else ''}))")
+                      rf"name (?:{'|'.join(NAMES[front])}) {NUMBER}|bind (?:Many|Deep|Heavy|Wide))")
 
 
 def no_record_of(back, heads, others):

@@ -29,14 +29,19 @@ def shape_of(back, message):
     return Shape(said["used"], said["order"], 8, 12, [edit_contexts, edit_principal])
 
 
-def shape_of_reply(back, message):
-    """The shape of a right reply; over Mach its return code belongs to its head."""
-    if back == "xdr":
-        return Shape(24, "big", None, 0, [])
-    if back == "mach":
-        return Shape(MACH_BODY + 8, "little", 4, 0, [edit_descriptor, *[edit_data] * 2])
-    said = read_reply(message)
-    return Shape(said["used"], said["order"], 8, 12, [edit_contexts])
+def reply_shape(raises):
+    """The shapes of right replies to an operation, which may raise exceptions.
+
+    Over Mach the return code belongs to the head, and over ONC and Mach the number of the arm where any are raised.
+    """
+    def shape_of(back, message):
+        if back == "xdr":
+            return Shape(28 if raises else 24, "big", None, 0, [])
+        if back == "mach":
+            return Shape(MACH_BODY + (16 if raises else 8), "little", 4, 0, [edit_descriptor, *[edit_data] * 2])
+        said = read_reply(message)
+        return Shape(said["used"], said["order"], 8, 12, [edit_contexts])
+    return shape_of
 
 
 def sized(message, shape):

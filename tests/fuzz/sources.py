@@ -57,7 +57,7 @@ def generated(front):
         if front == "mig":
             yield mig_samples.accepted(rng)[0].decode()
         elif front == "corba":
-            yield corba_samples.FileMaker(rng, raises=rng.random() < 0.3).text()
+            yield corba_samples.FileMaker(rng, raises=rng.random() < 0.7).text()
 
 
 def texts(front, back):

@@ -83,8 +83,6 @@ def written(ty, named):
 def refusal_of(offer, back):
     """The first limit that what a file offers passes over a back end, or None."""
     operations = [operation for interface in offer.interfaces for operation in interface.operations]
-    if back in ("xdr", "mach") and any(operation.raises for operation in operations):
-        return "Raises"
     return limit_of(offer.types, [messages_of(operation) for operation in operations], 4 * len(offer.interfaces) if back == "xdr" else 0)
 
 

@@ -187,8 +187,6 @@ def untaken(back, interfaces, octets):
 def checked(rng, interfaces):
     """What is wrong over a file, by each back end."""
     for name, back in REPLIES.items():
-        if any(op.raises for i in interfaces for op in i.own) and not name.startswith("cdr"):
-            continue
         for line in reply_lines(rng, back, interfaces, LINES):
             yield unread(back, interfaces, line)
         yield untaken(back, interfaces, refused_lines(rng, back, interfaces))

@@ -154,13 +154,6 @@ fn number_cause(word: &[u8]) -> Option<Cause> {
     }
 }
 
-const RAISES: Cause = Cause {
-    what: "an operation that raises exceptions:",
-    why: "messages over xdr and mach carry none.",
-    repair: "use cdr-be or cdr-le, or return what went wrong as a result.",
-    of_names: true,
-};
-
 const MANY: Cause = Cause {
     what: "more types than the limit, with",
     why: "the types and operations of a file have at most 65,536 nodes.",
@@ -192,7 +185,6 @@ const UNFOLDED: Cause = Cause {
 /// What is said of a word of `? bind`.
 pub fn bind_cause(word: &[u8]) -> Option<Cause> {
     match word {
-        b"Raises" => Some(RAISES),
         b"Many" => Some(MANY),
         b"Deep" => Some(DEEP),
         b"Heavy" => Some(HEAVY),

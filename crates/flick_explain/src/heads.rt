@@ -51,11 +51,11 @@ fn mach_octets(word: &[u8]) -> (usize, usize) {
 }
 
 /// The octets of a reply that a fault of its head is said of: the first, and the one after the last.
-fn reply_octets(back: Back, word: &[u8]) -> (usize, usize) {
+fn reply_octets(back: Back, word: &[u8], message: &[u8]) -> (usize, usize) {
     match back {
         Back::Xdr => onc_reply_octets(word),
         Back::CdrBig | Back::CdrLittle => giop_octets(word),
-        Back::Mach => mach_reply_octets(word),
+        Back::Mach => mach_reply_octets(word, message),
     }
 }
 
@@ -69,10 +69,19 @@ fn onc_reply_octets(word: &[u8]) -> (usize, usize) {
     }
 }
 
+/// The item of a return code of 0, behind which the number of an arm may stand.
+const NOTHING_WRONG: [u8; 8] = [0x02, 0x20, 0x01, 0x10, 0, 0, 0, 0];
+
+/// Whether a Mach reply has a return code of 0.
+fn is_answered(message: &[u8]) -> bool {
+    message.len() >= 32 && message[24..32] == NOTHING_WRONG
+}
+
 /// Those of a Mach reply.
-fn mach_reply_octets(word: &[u8]) -> (usize, usize) {
+fn mach_reply_octets(word: &[u8], message: &[u8]) -> (usize, usize) {
     match word {
         b"Type" => (20, 24),
+        b"Item" if is_answered(message) => (32, 40),
         b"Item" => (24, 32),
         _ => mach_octets(word),
     }
@@ -85,7 +94,7 @@ pub fn reply_head_reported(
     word: &[u8],
     message: &[u8],
 ) -> Result<String, NoMemory> {
-    let (first, end) = reply_octets(back, word);
+    let (first, end) = reply_octets(back, word, message);
     octets_reported(alloc, message, first, end)
 }
 

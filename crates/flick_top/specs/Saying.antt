@@ -45,7 +45,6 @@ name_name name.NoMemory = codes "NoMemory"
 
 -- the word of a reason why a unit is not bound
 abbrev pub bind_name : BindErr → List ℕ
-bind_name bind.Raises = codes "Raises"
 bind_name bind.Many = codes "Many"
 bind_name bind.Deep = codes "Deep"
 bind_name bind.Heavy = codes "Heavy"

@@ -202,7 +202,6 @@ fn bind_name(reason: BindErr) -> &'static str
     ensures { result.now ≡ bind_name reason }
 {
     match reason {
-        BindErr::Raises => "Raises",
         BindErr::Many => "Many",
         BindErr::Deep => "Deep",
         BindErr::Heavy => "Heavy",

@@ -1,5 +1,5 @@
 -- Each sound unit that has no reason against it has a binding.
-use Rattle.std.proofs.Common.{◌≡◌, Bool, true, false, not, ◌&&◌, ◌≤◌, ℕ, List, [], ◌++◌, length, length-append, nat_lt, if◌then◌else◌, Option, None, Some, refl, ap, ◌∙◌, subst, arith}
+use Rattle.std.proofs.Common.{◌≡◌, Bool, true, false, ◌≤◌, ℕ, List, [], ◌++◌, length, length-append, nat_lt, if◌then◌else◌, Option, None, Some, refl, ap, ◌∙◌, subst, arith}
 use Rattle.std.specs.List.{AllByRecursion, list_any}
 use Rattle.std.proofs.lemmas.Bool.{ltb-false}
 use Rattle.std.proofs.lemmas.List.{length-map}
@@ -11,10 +11,10 @@ use Rattle.pres.specs.declared.errors.BindErr.TheVariants as err
 use Rattle.pres.specs.declared.ops.Op.{Op}
 use Rattle.pres.specs.Bindings.{Binding}
 use Rattle.pres.specs.Faces.{Face, faces, faces_from}
-use Rattle.pres.specs.Faults.{has_raises, has_long_in, is_deep, is_heavy, is_spread, is_wide, bind_fault}
+use Rattle.pres.specs.Faults.{has_long_in, is_deep, is_heavy, is_spread, is_wide, bind_fault}
 use Rattle.pres.specs.Laws.{UnitsAreBound}
 use Rattle.pres.specs.Made.{made_in_types, made_in_interfaces, all_made}
-use Rattle.pres.specs.Offers.{is_cdr, faces_of, type_faces, offers}
+use Rattle.pres.specs.Offers.{faces_of, type_faces, offers}
 use Rattle.pres.specs.Drafts.{Sketch, IsSketch, drawn, known, IsDrawableInterface, AreOffered}
 use Rattle.pres.proofs.Building.{Fits, fits_first, draw_interfaces, draw_types}
 use Rattle.pres.proofs.Drafting.{sketch}
@@ -65,35 +65,33 @@ draw_unit u b sound few =
     record { new = e.new; ops = e.ops; is = e.is; nodes = e.grows.nodes ∙ ap (λ z. z ++ rest) nodes; there = e.there }
 
 -- no reason, and so not too many nodes
-not_many : (p q : Bool) (x : Option BindErr) → (if p then Some err.Raises else (if q then Some err.Many else x)) ≡ None → q ≡ false
-not_many true q x h = absurd cc
-not_many false true x h = absurd cc
-not_many false false x h = refl
+not_many : (q : Bool) (x : Option BindErr) → (if q then Some err.Many else x) ≡ None → q ≡ false
+not_many true x h = absurd cc
+not_many false x h = refl
 
 few_made : (u : PlainUnit) (b : Back) → bind_fault u b ≡ None → length (all_made u b) ≤ 65536
 few_made u b h =
     omega (
       arith,
       ltb-false 65536 (length (all_made u b))
-          (not_many (not (is_cdr b) && has_raises u) (nat_lt 65536 (length (all_made u b))) _ h),
+          (not_many (nat_lt 65536 (length (all_made u b))) _ h),
     )
 
 -- no reason, and so no long name
-not_wide : (p q r s t : Bool)
-    → (if p then Some err.Raises else (if q then Some err.Many else (if r then Some err.Deep else (if s then Some err.Heavy
-    else (if t then Some err.Wide else None))))) ≡ None
+not_wide : (q r s t : Bool)
+    → (if q then Some err.Many else (if r then Some err.Deep else (if s then Some err.Heavy
+    else (if t then Some err.Wide else None)))) ≡ None
     → t ≡ false
-not_wide true q r s t h = absurd cc
-not_wide false true r s t h = absurd cc
-not_wide false false true s t h = absurd cc
-not_wide false false false true t h = absurd cc
-not_wide false false false false true h = absurd cc
-not_wide false false false false false h = refl
+not_wide true r s t h = absurd cc
+not_wide false true s t h = absurd cc
+not_wide false false true t h = absurd cc
+not_wide false false false true h = absurd cc
+not_wide false false false false h = refl
 
 short_made : (u : PlainUnit) (b : Back) → bind_fault u b ≡ None → list_any has_long_in u.interfaces ≡ false
 short_made u b h =
     let narrow : is_wide u b ≡ false =
-    not_wide (not (is_cdr b) && has_raises u) (nat_lt 65536 (length (all_made u b))) (list_any is_deep (all_made u b))
+    not_wide (nat_lt 65536 (length (all_made u b))) (list_any is_deep (all_made u b))
     (list_any is_heavy (all_made u b)) (is_wide u b) h in
     (neither (list_any has_long_in u.interfaces) (is_spread (offers u b)) narrow).0
 

@@ -1,5 +1,5 @@
 -- Which refusal is the first, and what sizes up to a limit say of it, by induction on the faces and operations.
-use Rattle.std.proofs.Common.{◌≡◌, Bool, true, false, not, ◌&&◌, ◌||◌, ℕ, ◌+◌, ◌<◌, ◌≤◌, min, List, [], ◌∷◌, map, length, nat_lt, sum_by, None, Some, refl, sym, ap, ◌∙◌, subst, arith, true≢false}
+use Rattle.std.proofs.Common.{◌≡◌, Bool, true, false, ◌||◌, ℕ, ◌+◌, ◌<◌, ◌≤◌, min, List, [], ◌∷◌, map, length, nat_lt, sum_by, None, Some, refl, sym, ap, ◌∙◌, subst, arith, true≢false}
 use Rattle.std.specs.List.{list_any, AllByRecursion}
 use Rattle.std.proofs.lemmas.Bool.{lt-ltb, le-ltb, ltb-true, ltb-false}
 use Rattle.std.proofs.lemmas.List.Sums.{sum_by-cons}
@@ -18,34 +18,31 @@ use Rattle.pres.specs.Named.{AreNamed}
 use Rattle.pres.proofs.Drafting.{faces-length}
 use Rattle.pres.proofs.Rises.{neither}
 use Rattle.pres.specs.Faces.{Face, nothing, at, type_of, faces}
-use Rattle.pres.specs.Faults.{has_raises, is_deep, is_heavy, spread, spread_of, is_spread, has_long_in, is_wide, bind_fault}
+use Rattle.pres.specs.Faults.{is_deep, is_heavy, spread, spread_of, is_spread, has_long_in, is_wide, bind_fault}
 use Rattle.pres.specs.Made.{all_made}
-use Rattle.pres.specs.Offers.{offers, offer_at, is_cdr}
+use Rattle.pres.specs.Offers.{offers, offer_at}
 use Rattle.pres.specs.Sizes as sizes
 use Rattle.pres.specs.Sizes.{size_of, nodes_of, is_over}
 
-pub raises_next : (u : PlainUnit) (b : Back) → (not (is_cdr b) && has_raises u) ≡ true → bind_fault u b ≡ Some err.Raises
-raises_next u b h = rw h refl
-
-pub deep_next : (u : PlainUnit) (b : Back) → (not (is_cdr b) && has_raises u) ≡ false → length (all_made u b) ≤ 65536
+pub deep_next : (u : PlainUnit) (b : Back) → length (all_made u b) ≤ 65536
     → list_any is_deep (all_made u b) ≡ true
     → bind_fault u b ≡ Some err.Deep
-deep_next u b h m d = rw (h, le-ltb 65536 (length (all_made u b)) m, d) refl
+deep_next u b m d = rw (le-ltb 65536 (length (all_made u b)) m, d) refl
 
-pub heavy_next : (u : PlainUnit) (b : Back) → (not (is_cdr b) && has_raises u) ≡ false → length (all_made u b) ≤ 65536
+pub heavy_next : (u : PlainUnit) (b : Back) → length (all_made u b) ≤ 65536
     → list_any is_deep (all_made u b) ≡ false → list_any is_heavy (all_made u b) ≡ true
     → bind_fault u b ≡ Some err.Heavy
-heavy_next u b h m d w = rw (h, le-ltb 65536 (length (all_made u b)) m, d, w) refl
+heavy_next u b m d w = rw (le-ltb 65536 (length (all_made u b)) m, d, w) refl
 
-pub wide_next : (u : PlainUnit) (b : Back) → (not (is_cdr b) && has_raises u) ≡ false → length (all_made u b) ≤ 65536
+pub wide_next : (u : PlainUnit) (b : Back) → length (all_made u b) ≤ 65536
     → list_any is_deep (all_made u b) ≡ false → list_any is_heavy (all_made u b) ≡ false → is_wide u b ≡ true
     → bind_fault u b ≡ Some err.Wide
-wide_next u b h m d w x = rw (h, le-ltb 65536 (length (all_made u b)) m, d, w, x) refl
+wide_next u b m d w x = rw (le-ltb 65536 (length (all_made u b)) m, d, w, x) refl
 
-pub none_at_last : (u : PlainUnit) (b : Back) → (not (is_cdr b) && has_raises u) ≡ false → length (all_made u b) ≤ 65536
+pub none_at_last : (u : PlainUnit) (b : Back) → length (all_made u b) ≤ 65536
     → list_any is_deep (all_made u b) ≡ false → list_any is_heavy (all_made u b) ≡ false → is_wide u b ≡ false
     → bind_fault u b ≡ None
-none_at_last u b h m d w x = rw (h, le-ltb 65536 (length (all_made u b)) m, d, w, x) refl
+none_at_last u b m d w x = rw (le-ltb 65536 (length (all_made u b)) m, d, w, x) refl
 
 -- ---- sizes
 

@@ -1,5 +1,5 @@
 -- Why a unit is not bound.
-use Rattle.std.specs.Prelude.{Bool, not, ◌&&◌, ◌||◌, ◌==◌, nat_lt, ℕ, suc, ◌+◌, List, length, sum_by, Option, None, Some, if◌then◌else◌}
+use Rattle.std.specs.Prelude.{Bool, ◌||◌, nat_lt, ℕ, suc, ◌+◌, List, length, sum_by, Option, None, Some, if◌then◌else◌}
 use Rattle.std.specs.List.{list_any}
 use Rattle.kit_base.specs.Limits.{deepest, heaviest_blank, longest_name, most_nodes, most_operation_nodes, most_unit_nodes}
 use Rattle.mint.specs.Blank.{blank, depth}
@@ -9,20 +9,8 @@ use Rattle.aoi.specs.Plain.{PlainRaise, PlainOperation, PlainInterface, PlainUni
 use Rattle.pres.specs.declared.errors.BindErr.{BindErr}
 use Rattle.pres.specs.declared.errors.BindErr.TheVariants as err
 use Rattle.pres.specs.Faces.{Face, nothing, scalar, numbers, values, members, list, choice, maybe, Parts, no_parts, part, Arms, no_other, other, arm, type_of}
-use Rattle.pres.specs.Offers.{Offer, offers, is_cdr}
+use Rattle.pres.specs.Offers.{Offer, offers}
 use Rattle.pres.specs.Made.{all_made}
-
--- an operation that raises exceptions
-abbrev pub raises : PlainOperation → Bool
-raises op = not (length op.raises == 0)
-
--- an operation of the unit raises exceptions
-abbrev pub has_raises : PlainUnit → Bool
-has_raises u = list_any (λ (i : PlainInterface). list_any raises i.ops) u.interfaces
-
--- an operation raises what the messages of the back end cannot express
-abbrev pub is_raised_in_vain : PlainUnit → Back → Bool
-is_raised_in_vain u b = not (is_cdr b) && has_raises u
 
 -- more levels than a type may have
 abbrev pub is_deep : Face → Bool
@@ -80,9 +68,8 @@ is_wide u b = list_any has_long_in u.interfaces || is_spread (offers u b)
 -- the first reason
 abbrev pub bind_fault : PlainUnit → Back → Option BindErr
 bind_fault u b =
-    if is_raised_in_vain u b then Some err.Raises
-    else (if nat_lt most_nodes (length (all_made u b)) then Some err.Many
+    if nat_lt most_nodes (length (all_made u b)) then Some err.Many
     else (if list_any is_deep (all_made u b) then Some err.Deep
     else (if list_any is_heavy (all_made u b) then Some err.Heavy
     else (if is_wide u b then Some err.Wide
-    else None))))
+    else None)))

@@ -6,14 +6,13 @@ ghost use Rattle.aoi.specs.Plain.{plain, IsSoundPlain};
 ghost use Rattle.pres.specs.declared.ops.Op.{Op as OpRecord};
 ghost use Rattle.pres.specs.Bindings.{IsBinding};
 ghost use Rattle.pres.specs.Faces.{faces};
-ghost use Rattle.pres.specs.Faults.{bind_fault, is_raised_in_vain};
+ghost use Rattle.pres.specs.Faults.{bind_fault};
 ghost use Rattle.pres.specs.Made.{all_made};
 ghost use Rattle.pres.specs.Offers.{offer_at, offers};
 ghost use Rattle.pres.specs.Sizes.{has_deep, is_too_wide};
 
 use crate::draft::Draft;
-use crate::faults::{has_long_names, has_raises, is_deep, is_over};
-use crate::messages::is_cdr;
+use crate::faults::{has_long_names, is_deep, is_over};
 use crate::raises::raise_tables;
 use crate::sizes::Size;
 use crate::{BindErr, Bound, Op, Ops, Pres};
@@ -21,18 +20,6 @@ use aoi::Unit;
 use mint::table::Mint;
 use std::alloc::Global;
 use wire_def::Back;
-
-/// Refuses operations that raise what the messages of the back end cannot express. It takes no memory.
-fn check_raises(unit: &Unit, back: Back) -> Result<(), BindErr>
-    ensures ok { OnOk result (is_raised_in_vain (plain unit.now) back ≡ false) }
-    ensures cause { IfErr result
-        (λ e. (e ≡ BindErr.Raises) × (is_raised_in_vain (plain unit.now) back ≡ true)) }
-{
-    if !is_cdr(back) && has_raises(unit.interfaces().as_slice()) {
-        return Err(BindErr::Raises);
-    }
-    Ok(())
-}
 
 /// Refuses types of more than 32 levels. It takes no memory.
 fn check_depth(sizes: &[Size]) -> Result<(), BindErr>
@@ -68,7 +55,6 @@ fn draw(alloc: Global, unit: &Unit, back: Back) -> Result<(Mint, Pres, Ops), Bin
     ensures ok { OnOk result (bind_fault (plain unit.now) back ≡ None) }
     ensures cause { IfErr result (λ e. e ≢ BindErr.NoMemory → bind_fault (plain unit.now) back ≡ Some e) }
 {
-    check_raises(unit, back)?;
     let mut draft = Draft::new(alloc);
     let ops = draft.draw_unit(alloc, unit, back)?;
     let sizes = draft.sizes(alloc)?;

@@ -9,9 +9,6 @@ use thiserror::Error;
 /// A refusal of [`crate::bind`].
 #[derive(Clone, Copy, Debug, PartialEq, Eq, Error)]
 pub enum BindErr {
-    /// An operation raises exceptions, which the messages of the back end cannot express.
-    #[error("Raises")]
-    Raises,
     /// More than 65,536 nodes.
     #[error("Many")]
     Many,

@@ -6,7 +6,7 @@ ghost use Rattle.kit_base.specs.Limits.{deepest};
 ghost use Rattle.aoi.specs.Plain.{PlainRaise, PlainInterface, plain_raise, plain_operation, plain_interface};
 ghost use Rattle.pres.specs.declared.ops.Op.{Op as OpRecord};
 ghost use Rattle.pres.specs.declared.sizes.Size.{Size as SizeRecord};
-ghost use Rattle.pres.specs.Faults.{raises, is_long, has_long, has_long_in};
+ghost use Rattle.pres.specs.Faults.{is_long, has_long, has_long_in};
 ghost use Rattle.pres.specs.Sizes.{is_over};
 
 use crate::Op;
@@ -14,30 +14,6 @@ use crate::sizes::Size;
 use aoi::{Interface, Operation, Raise};
 use kit_base::Name;
 use kit_base::limits::{DEEPEST, LONGEST_NAME, MOST_OPERATION_NODES, MOST_UNIT_NODES};
-
-fn is_raise_in(ops: &[Operation]) -> bool
-    ensures { result ≡ list_any raises (map plain_operation ops.now) }
-{
-    for op in ops {
-        if op.raises.len() != 0 {
-            return true;
-        }
-    }
-    false
-}
-
-/// Whether an operation raises exceptions.
-pub(crate) fn has_raises(interfaces: &[Interface]) -> bool
-    ensures { result
-        ≡ list_any (λ (i : PlainInterface). list_any raises i.ops) (map plain_interface interfaces.now) }
-{
-    for i in interfaces {
-        if is_raise_in(i.ops.as_slice()) {
-            return true;
-        }
-    }
-    false
-}
 
 fn is_long(name: &Name) -> bool
     ensures { result ≡ is_long name.now }

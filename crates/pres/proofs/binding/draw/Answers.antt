@@ -7,14 +7,8 @@ use Rattle.pres.specs.Faults.{bind_fault}
 use Rattle.pres.specs.Sizes.{size_of}
 use Rattle.pres.proofs.Drawn.{handed_on}
 use Rattle.pres.proofs.SoundUnit.{unit_drawable, unit_regular}
-use Rattle.pres.proofs.Faulty.{raises_next, deep_next, heavy_next, wide_next, none_at_last, deep_sizes, wide_is, placed_in, table_faces, bound, short_names}
+use Rattle.pres.proofs.Faulty.{deep_next, heavy_next, wide_next, none_at_last, deep_sizes, wide_is, placed_in, table_faces, bound, short_names}
 use Rattle.pres.proofs.binding.draw.Goals as goal
-
-pub returns-in_err-check_raises-clause-cause : goal.returns-in_err-check_raises-clause-cause
-returns-in_err-check_raises-clause-cause c =
-    handed_on _ c.in_err-check_raises.field-0.0
-    (λ e. e ≢ err.NoMemory → bind_fault (plain c.args.unit.now) c.args.back ≡ Some e) c.from_residual.ensures.1
-    (λ ne. let h = c.in_err-check_raises.ensures.cause in raises_next (plain c.args.unit.now) c.args.back h.1 ∙ ap Some (sym h.0))
 
 pub draw_unit-requires-clause-drawable : goal.draw_unit-requires-clause-drawable
 draw_unit-requires-clause-drawable c = unit_drawable (plain c.args.unit.now) c.requires
@@ -27,7 +21,7 @@ returns-in_err-check_depth-clause-cause c =
     (λ e. e ≢ err.NoMemory → bind_fault (plain c.args.unit.now) c.args.back ≡ Some e) c.from_residual-in_err-check_depth.ensures.1
     (λ ne. let h = c.in_err-check_depth.ensures.cause in
     let deep = sym (deep_sizes (drawn c.draw_unit.new.self)) ∙ (rw (c.deref.ensures.value, c.in_ok-sizes.ensures.value) at h.1) in
-    deep_next (plain c.args.unit.now) c.args.back c.in_ok-check_raises.ensures.ok few (rw nodes at deep) ∙ ap Some (sym h.0))
+    deep_next (plain c.args.unit.now) c.args.back few (rw nodes at deep) ∙ ap Some (sym h.0))
 
 pub build-requires-clause-regular : goal.build-requires-clause-regular
 build-requires-clause-regular c = rw c.in_ok-ops.ensures.nodes (unit_regular (plain c.args.unit.now) c.args.back c.requires)
@@ -45,7 +39,7 @@ returns-in_err-mint-clause-cause c =
     handed_on _ c.in_err-mint.field-0.0
     (λ e. e ≢ err.NoMemory → bind_fault (plain c.args.unit.now) c.args.back ≡ Some e) c.from_residual-in_err-mint.ensures.1
     (λ ne.
-    let h = c.in_err-mint.ensures.cause ne in heavy_next (plain c.args.unit.now) c.args.back c.in_ok-check_raises.ensures.ok few
+    let h = c.in_err-mint.ensures.cause ne in heavy_next (plain c.args.unit.now) c.args.back few
     (rw nodes at deep) (rw nodes at h.1) ∙ ap Some (sym h.0))
 
 pub check_width-requires : goal.check_width-requires
@@ -66,7 +60,7 @@ returns-in_err-check_width-clause-cause c =
     let wide =
     sym (wide_is (plain c.args.unit.now) c.args.back (drawn c.draw_unit.new.self) _ _
     (c.deref-2.ensures.value ∙ c.in_ok-sizes.ensures.value) c.in_ok-ops.ensures.offers.are) ∙ (rw c.as_slice.ensures at h.1) in
-    wide_next (plain c.args.unit.now) c.args.back c.in_ok-check_raises.ensures.ok few (rw nodes at deep)
+    wide_next (plain c.args.unit.now) c.args.back few (rw nodes at deep)
     (rw nodes at c.in_ok-mint.ensures.light) wide ∙ ap Some (sym h.0))
 
 pub returns-clause-ok : goal.returns-clause-ok
@@ -79,7 +73,7 @@ returns-clause-ok c =
     sym (wide_is (plain c.args.unit.now) c.args.back (drawn c.draw_unit.new.self) _ _
     (c.deref-2.ensures.value ∙ c.in_ok-sizes.ensures.value) c.in_ok-ops.ensures.offers.are)
     ∙ (rw c.as_slice.ensures at c.in_ok-check_width.ensures.ok) in
-    none_at_last (plain c.args.unit.now) c.args.back c.in_ok-check_raises.ensures.ok few (rw nodes at deep)
+    none_at_last (plain c.args.unit.now) c.args.back few (rw nodes at deep)
     (rw nodes at c.in_ok-mint.ensures.light) wide
 
 pub returns-clause-nodes : goal.returns-clause-nodes
