@@ -10,6 +10,3 @@ mod run;
 
 pub use pass::chunk;
 pub use phase::Phase;
-
-#[cfg(test)]
-mod tests;
