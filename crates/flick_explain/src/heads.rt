@@ -69,12 +69,9 @@ fn onc_reply_octets(word: &[u8]) -> (usize, usize) {
     }
 }
 
-/// The item of a return code of 0, behind which the number of an arm may stand.
-const NOTHING_WRONG: [u8; 8] = [0x02, 0x20, 0x01, 0x10, 0, 0, 0, 0];
-
-/// Whether a Mach reply has a return code of 0.
+/// Whether a Mach reply has a return code of 0, behind which the number of an arm may stand.
 fn is_answered(message: &[u8]) -> bool {
-    message.len() >= 32 && message[24..32] == NOTHING_WRONG
+    message.len() >= 32 && &message[24..32] == b"\x02\x20\x01\x10\0\0\0\0".as_slice()
 }
 
 /// Those of a Mach reply.
