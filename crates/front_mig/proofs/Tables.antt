@@ -27,5 +27,3 @@ meaning_after name [] back h = refl
 meaning_after name (e ∷ es) back h =
     after_by (bytes_eq name e.0) e.1 (meaning_of name es) (meaning_of name (es ++ back)) (meaning_of name back)
     (meaning_after name es back) h
-
-pub ruleset joined = (meaning_here, meaning_after)

@@ -28,7 +28,6 @@ fn found(decl: u32, meaning: Option<Meaning>) -> Result<Meaning, NameErr>
 }
 
 /// What a name stands for, if it is declared or known.
-#[tactic(auto, using(crate::proofs::Tables::joined))]
 fn meaning(scope: &Scope, name: &[u8]) -> Option<Meaning>
     ensures { result ≡ meaning_of name.now (scope.now ++ known) }
 {
