@@ -10,12 +10,17 @@ crates    the crates of crates.txt, each with the first sentence of its README
 words     WORD, USUAL TERM: CRATE NAME || ..: our words, each with the first sentence of the doc line or comment of its definition
 grammar   onc, corba or mig: the rules by which tests/model reads files of the language
 touched   WHAT = NEIGHBOUR || ..: what may be added, and the files of src/ and specs/ that name a thing like it
+variants  CRATE ENUM: LINE = VARIANT || ..: lines of stub code, each with the doc line of its variant
+worked    the codes that tests/model runs, with what they send and cost
+stages    BACK FILE OPERATION: the code of a request after each pass, as tests/model makes it
 """
 import functools
 import glob
 import json
 import os
 import re
+import subprocess
+import sys
 
 import sources
 from sources import TOP
@@ -144,7 +149,49 @@ def grammar(language):
     return ["```", *re.search(r'^GRAMMAR = """\n(.*?)\n"""', content(f"tests/model/{language}.py"), re.S | re.M)[1].split("\n"), "```"]
 
 
-KINDS = {"words": words, "grammar": grammar, "touched": touched, "usage": usage, "session": session, "octets": octets, "refused": refused, "crates": crates}
+def variants(arguments):
+    where, _, rest = arguments.partition(": ")
+    crate, enum = where.split()
+    texts = (sources.sums.content(path) for path in sorted(glob.glob(f"{TOP}/crates/{crate}/src/**/*.rt", recursive=True)))
+    body = next(found[1] for text in texts if (found := re.search(rf"^pub enum {enum} \{{\n(.*?)\n\}}", text, re.S | re.M)))
+    docs = {name: " ".join(re.findall(r"/// (.*)", doc)) for doc, name in re.findall(r"((?: +///.*\n)+) +(\w+)", body)}
+    lines = ["| Line | What it is |", "|---|---|"]
+    for entry in rest.split(" || "):
+        line, _, variant = entry.rpartition(" = ")
+        lines.append(f"| `{line}` | {docs[variant].rstrip('.')} |")
+    return lines
+
+
+def of_model(code):
+    """What a program over tests/model writes, which is JSON."""
+    run = subprocess.run([sys.executable, "-B", "-c", f"import json, sys; sys.path.insert(0, {TOP + '/tests/model'!r}); {code}"], check=True, capture_output=True, text=True)
+    return json.loads(run.stdout)
+
+
+def in_line(text):
+    """Stub code on one line: what has a body or puts with braces, and long octets cut."""
+    done = []
+    for line in text.splitlines():
+        line = re.sub(r"(const [0-9a-f]{8})[0-9a-f]+", r"\1..", line)
+        if line == "end":
+            done[-1] = done[-1].rstrip(";")
+        done.append("}" if line == "end" else f"{line} {{" if re.match(r"(chunk|take|each|switch|some|sub)\b", line) else f"{line}:" if re.match(r"case|default", line) else f"{line};")
+    return " ".join(done).rstrip(";")
+
+
+def worked(_):
+    rows = of_model("import stub_samples; print(json.dumps(stub_samples.WORKED))")
+    return ["| Code | Value | Octets | Checks, moves, stores, rows |", "|---|---|---|---|",
+            *(f"| `{in_line(code)}` | `{json.dumps(value, separators=(',', ':'))}` | `{in_words(octets)}` | {', '.join(map(str, cost))} |" for code, value, octets, cost in rows)]
+
+
+def stages(arguments):
+    back, file, operation = arguments.split()
+    rows = of_model(f"import stub_samples; print(json.dumps(stub_samples.texts_of_stages({back!r}, open({TOP + '/' + file!r}).read(), {operation!r})))")
+    return ["| After | Code |", "|---|---|", *(f"| `{what}` | `{in_line(text)}` |" for what, text in rows)]
+
+
+KINDS = {"variants": variants, "worked": worked, "stages": stages, "words": words, "grammar": grammar, "touched": touched, "usage": usage, "session": session, "octets": octets, "refused": refused, "crates": crates}
 
 
 def page(written):
