@@ -11,6 +11,7 @@ words     WORD, USUAL TERM: CRATE NAME || ..: our words, each with the first sen
 grammar   onc, corba or mig: the rules by which tests/model reads files of the language
 touched   WHAT = NEIGHBOUR || ..: what may be added, and the files of src/ and specs/ that name a thing like it
 variants  CRATE ENUM: LINE = VARIANT || ..: lines of stub code, each with the doc line of its variant
+items     CRATE NAME NAME..: what a crate gives to others, each with the first sentence of its doc line
 worked    the codes that tests/model runs, with what they send and cost
 stages    BACK FILE OPERATION: the code of a request after each pass, as tests/model makes it
 """
@@ -94,10 +95,10 @@ def crates(_):
 
 
 def meaning(crate, name):
-    """The first sentence above a type or a definition of a crate, and its file."""
+    """The first sentence above a type, a function or a definition of a crate, and its file."""
     for path in sorted(glob.glob(f"{TOP}/crates/{crate}/src/**/*.rt", recursive=True)):
         text = sources.sums.content(path)
-        if found := re.search(rf"^pub (?:enum|struct|trait) {name}\b.*", text, re.M):
+        if found := re.search(rf"^pub (?:enum|struct|trait|type|fn) {name}\b.*", text, re.M):
             return sources.sentence(sources.doc_above(text, text[found.start():])), os.path.relpath(path, f"{TOP}/crates")
     for path in sorted(glob.glob(f"{TOP}/crates/{crate}/specs/**/*.antt", recursive=True)):
         for each in sources.definitions(os.path.relpath(path, TOP)):
@@ -149,6 +150,12 @@ def grammar(language):
     return ["```", *re.search(r'^GRAMMAR = """\n(.*?)\n"""', content(f"tests/model/{language}.py"), re.S | re.M)[1].split("\n"), "```"]
 
 
+def items(arguments):
+    """What a crate gives to others, each with the first sentence of its doc line."""
+    crate, *names = arguments.split()
+    return [f"- `{name}`: {said[:1].lower() + said[1:]}" for name in names for said in [re.sub(r"\[(`\w+`)\]", r"\1", meaning(crate, name)[0])]]
+
+
 def variants(arguments):
     where, _, rest = arguments.partition(": ")
     crate, enum = where.split()
@@ -191,7 +198,7 @@ def stages(arguments):
     return ["| After | Code |", "|---|---|", *(f"| `{what}` | `{in_line(text)}` |" for what, text in rows)]
 
 
-KINDS = {"variants": variants, "worked": worked, "stages": stages, "words": words, "grammar": grammar, "touched": touched, "usage": usage, "session": session, "octets": octets, "refused": refused, "crates": crates}
+KINDS = {"items": items, "variants": variants, "worked": worked, "stages": stages, "words": words, "grammar": grammar, "touched": touched, "usage": usage, "session": session, "octets": octets, "refused": refused, "crates": crates}
 
 
 def page(written):
@@ -200,5 +207,6 @@ def page(written):
 
 
 def pages():
-    """The pages of docs/ that have blocks."""
-    return [name.removesuffix(".md") for name in sorted(os.listdir(f"{TOP}/docs")) if name.endswith(".md") and BLOCK.search(content(f"docs/{name}"))]
+    """The pages of docs/ and the READMEs of crates that have blocks, by their paths without ending."""
+    paths = sorted([*glob.glob("docs/*.md", root_dir=TOP), *glob.glob("crates/*/README.md", root_dir=TOP)])
+    return [path.removesuffix(".md") for path in paths if BLOCK.search(content(path))]
