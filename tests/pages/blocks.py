@@ -207,6 +207,6 @@ def page(written):
 
 
 def pages():
-    """The pages of docs/ and the READMEs of crates that have blocks, by their paths without ending."""
-    paths = sorted([*glob.glob("docs/*.md", root_dir=TOP), *glob.glob("crates/*/README.md", root_dir=TOP)])
+    """The READMEs and the pages of docs/ that have blocks, by their paths without ending."""
+    paths = ["README.md", *sorted([*glob.glob("docs/*.md", root_dir=TOP), *glob.glob("crates/*/README.md", root_dir=TOP)])]
     return [path.removesuffix(".md") for path in paths if BLOCK.search(content(path))]
