@@ -13,6 +13,7 @@ touched   WHAT = NEIGHBOUR || ..: what may be added, and the files of src/ and s
 variants  CRATE ENUM: LINE = VARIANT || ..: lines of stub code, each with the doc line of its variant
 items     CRATE NAME NAME..: what a crate gives to others, each with the first sentence of its doc line
 worked    the codes that tests/model runs, with what they send and cost
+vectors   how many vectors there are, by category and back end, and what they ask
 stages    BACK FILE OPERATION: the code of a request after each pass, as tests/model makes it
 """
 import functools
@@ -192,13 +193,31 @@ def worked(_):
             *(f"| `{in_line(code)}` | `{json.dumps(value, separators=(',', ':'))}` | `{in_words(octets)}` | {', '.join(map(str, cost))} |" for code, value, octets, cost in rows)]
 
 
+CATEGORIES = {"values": "values, both ways", "limits": "limits of each form, and one beyond", "heads": "heads, refused", "bodies": "bodies, refused",
+              "trailing": "trailing octets", "replies": "replies", "choices": "choices of senders", "open": "open"}
+
+
+def vectors(_):
+    backs = sorted(os.path.basename(path) for path in glob.glob(f"{TOP}/vectors/*") if glob.glob(f"{path}/*.jsonl"))
+    paths = {(name, back): f"vectors/{back}/{name}.jsonl" for name in CATEGORIES for back in backs}
+    rows = {key: [json.loads(line) for line in content(path).split("\n") if line] if os.path.exists(f"{TOP}/{path}") else [] for key, path in paths.items()}
+    other = {os.path.basename(path).split(".")[0] for path in glob.glob(f"{TOP}/vectors/*/*.jsonl")} - {*CATEGORIES}
+    if other:
+        raise SystemExit(f"tests/pages/blocks.py has no words for the category {min(other)}")
+    asked = {key: sum(1 if "refused" in row or row.get("way") == "read" else 2 for row in found) for key, found in rows.items()}
+    table = [(said, *(len(rows[name, back]) for back in backs), sum(asked[name, back] for back in backs)) for name, said in CATEGORIES.items()]
+    table.append(("all", *(sum(column) for column in list(zip(*table))[1:])))
+    return [f"| Category | {' | '.join(backs)} | Answers |", "|---" * (len(backs) + 2) + "|",
+            *(f"| {said} | {' | '.join(f'{n:,}' for n in numbers)} |" for said, *numbers in table)]
+
+
 def stages(arguments):
     back, file, operation = arguments.split()
     rows = of_model(f"import stub_samples; print(json.dumps(stub_samples.texts_of_stages({back!r}, open({TOP + '/' + file!r}).read(), {operation!r})))")
     return ["| After | Code |", "|---|---|", *(f"| `{what}` | `{in_line(text)}` |" for what, text in rows)]
 
 
-KINDS = {"items": items, "variants": variants, "worked": worked, "stages": stages, "words": words, "grammar": grammar, "touched": touched, "usage": usage, "session": session, "octets": octets, "refused": refused, "crates": crates}
+KINDS = {"vectors": vectors, "items": items, "variants": variants, "worked": worked, "stages": stages, "words": words, "grammar": grammar, "touched": touched, "usage": usage, "session": session, "octets": octets, "refused": refused, "crates": crates}
 
 
 def page(written):
