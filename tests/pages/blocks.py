@@ -12,6 +12,7 @@ grammar   onc, corba or mig: the rules by which tests/model reads files of the l
 touched   WHAT = NEIGHBOUR || ..: what may be added, and the files of src/ and specs/ that name a thing like it
 variants  CRATE ENUM: LINE = VARIANT || ..: lines of stub code, each with the doc line of its variant
 items     CRATE NAME NAME..: what a crate gives to others, each with the first sentence of its doc line
+tools     PATH PATH..: programs of the repository, each with its words and what it does, by the first lines of its own text
 worked    the codes that tests/model runs, with what they send and cost
 vectors   how many vectors there are, by category and back end, and what they ask
 stages    BACK FILE OPERATION: the code of a request after each pass, as tests/model makes it
@@ -170,6 +171,16 @@ def variants(arguments):
     return lines
 
 
+def tools(arguments):
+    rows = []
+    for path in arguments.split():
+        first, more = re.search(r'^"""(.*)\n(.*)', content(path), re.M).groups()
+        what, _, usage = f"{first} {more if more.startswith(path) else ''}".strip().partition(f": {path}")
+        cells = [part.removesuffix('"""').replace("|", "\\|") for part in (path + usage, what)]
+        rows.append(f"| `{cells[0]}` | {cells[1]} |")
+    return ["| Run | What it does |", "|---|---|", *rows]
+
+
 def of_model(code):
     """What a program over tests/model writes, which is JSON."""
     run = subprocess.run([sys.executable, "-B", "-c", f"import json, sys; sys.path.insert(0, {TOP + '/tests/model'!r}); {code}"], check=True, capture_output=True, text=True)
@@ -217,7 +228,7 @@ def stages(arguments):
     return ["| After | Code |", "|---|---|", *(f"| `{what}` | `{in_line(text)}` |" for what, text in rows)]
 
 
-KINDS = {"vectors": vectors, "items": items, "variants": variants, "worked": worked, "stages": stages, "words": words, "grammar": grammar, "touched": touched, "usage": usage, "session": session, "octets": octets, "refused": refused, "crates": crates}
+KINDS = {"tools": tools, "vectors": vectors, "items": items, "variants": variants, "worked": worked, "stages": stages, "words": words, "grammar": grammar, "touched": touched, "usage": usage, "session": session, "octets": octets, "refused": refused, "crates": crates}
 
 
 def page(written):
