@@ -273,6 +273,23 @@ def stages(back, interface, operation, nodes, id):
     yield "chunk", chunked(Phase(8, 0), code)
 
 
+# Types, and what they are as nodes, of which docs/STUBS.md shows the code.
+LOWERED = (
+    ("int", [["num", "i32"]]),
+    ("octet", [["num", "u8"]]),
+    ("string<8>", [["text", {"most": 8}]]),
+    ("short<8>", [["row", "i16", {"most": 8}]]),
+    ("hyper<4096>", [["row", "i64", {"most": 4096}]]),
+    ("union switch (int) { case 1: void; default: int; }", [["void"], ["num", "i32"], ["choice", "i32", [[1, 0]], 1]]),
+    ("int *", [["num", "i32"], ["maybe", 0]]),
+)
+
+
+def texts_of_lowered(encodings):
+    """The text of the inlined code of each of these types over encodings."""
+    return [(said, ["\n".join(lines_of(sending(encoding, nodes, len(nodes) - 1))) for encoding in encodings]) for said, nodes in LOWERED]
+
+
 def texts_of_stages(back, file, name):
     """The text of each of these, without names, of an operation of a file."""
     request = next(each for each in requests_of(back, interfaces_of(file)) if each.operation[0] == name)

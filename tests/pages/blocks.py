@@ -15,6 +15,7 @@ items     CRATE NAME NAME..: what a crate gives to others, each with the first s
 tools     PATH PATH..: programs of the repository, each with its words and what it does, by the first lines of its own text
 worked    the codes that tests/model runs, with what they send and cost
 vectors   how many vectors there are, by category and back end, and what they ask
+lowered   ENCODING ENCODING..: the code of types over encodings, as tests/model makes it
 stages    BACK FILE OPERATION: the code of a request after each pass, as tests/model makes it
 """
 import functools
@@ -222,13 +223,20 @@ def vectors(_):
             *(f"| {said} | {' | '.join(f'{n:,}' for n in numbers)} |" for said, *numbers in table)]
 
 
+def lowered(arguments):
+    encodings = arguments.split()
+    rows = of_model(f"import stub_samples; print(json.dumps(stub_samples.texts_of_lowered({encodings!r})))")
+    return [f"| Type | {' | '.join(f'`{each}`' for each in encodings)} |", "|---" * (len(encodings) + 1) + "|",
+            *(f"| `{said}` | {' | '.join(f'`{in_line(text)}`' for text in texts)} |" for said, texts in rows)]
+
+
 def stages(arguments):
     back, file, operation = arguments.split()
     rows = of_model(f"import stub_samples; print(json.dumps(stub_samples.texts_of_stages({back!r}, open({TOP + '/' + file!r}).read(), {operation!r})))")
     return ["| After | Code |", "|---|---|", *(f"| `{what}` | `{in_line(text)}` |" for what, text in rows)]
 
 
-KINDS = {"tools": tools, "vectors": vectors, "items": items, "variants": variants, "worked": worked, "stages": stages, "words": words, "grammar": grammar, "touched": touched, "usage": usage, "session": session, "octets": octets, "refused": refused, "crates": crates}
+KINDS = {"lowered": lowered, "tools": tools, "vectors": vectors, "items": items, "variants": variants, "worked": worked, "stages": stages, "words": words, "grammar": grammar, "touched": touched, "usage": usage, "session": session, "octets": octets, "refused": refused, "crates": crates}
 
 
 def page(written):
