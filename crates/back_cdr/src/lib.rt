@@ -1,7 +1,8 @@
-//! Requests over GIOP 1.0 (OMG CORBA, chapter GIOP), and CDR in either order: the heads that are
-//! sent, as code.
+//! Requests over GIOP 1.0 and 1.2 (OMG CORBA, chapter GIOP), and CDR in either order: the heads that
+//! are sent, as code.
 #![tactic(auto)]
 
+mod bodies;
 mod laws;
 mod leads;
 mod lowering;
