@@ -13,7 +13,7 @@ mod recv_lowering;
 mod seek;
 mod targets;
 
-pub use laws::{leads_have_one_length, requests_are_named_right};
+pub use laws::{bodies_have_octets, leads_have_one_length, requests_are_named_right};
 pub use leads::{lead_call, lead_reply, size_patch};
 pub use lowering::lower_send;
 pub use names::Names;

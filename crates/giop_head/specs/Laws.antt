@@ -1,11 +1,12 @@
 -- Laws of the heads.
-use Rattle.std.specs.Prelude.{◌≡◌, ◌↔◌, ℕ, suc, ◌-◌, ◌^◌, ◌<◌, ◌≤◌, Bool, true, false, List, [], ◌++◌, length, Some}
+use Rattle.std.specs.Prelude.{◌≡◌, ◌↔◌, ℕ, suc, ◌+◌, ◌-◌, ◌^◌, ◌<◌, ◌≤◌, Bool, true, false, List, [], ◌++◌, length, Some}
 use Rattle.wire_def.specs.Grammar.{AreOctets}
+use Rattle.wire_def.specs.declared.fault.HeadErr.{HeadErr}
 use Rattle.wire_def.specs.declared.head.Order.{Order}
 use Rattle.wire_def.specs.declared.outcome.Refusal.{Refusal}
 use Rattle.head_kit.specs.Heads.{IsDecided, IsRead}
 use Rattle.giop_head.specs.Header.{IsMinor}
-use Rattle.giop_head.specs.Items.{HasNoZero}
+use Rattle.giop_head.specs.Items.{HasNoZero, PaddingStops}
 use Rattle.giop_head.specs.Call.{Request}
 use Rattle.giop_head.specs.Reply.{Fate, answer, user, system}
 use Rattle.giop_head.specs.Printed.{request_octets, answer_octets, user_octets, system_octets, with_size, refusal_octets, IsOwn}
@@ -20,6 +21,10 @@ HeadsAreDecided = (w : Way) (message : List ℕ) → AreOctets message → IsDec
 -- what is read of a message of any length is spelled, and where reading stops there is the fault
 abbrev pub HeadsAreRead : Type 0
 HeadsAreRead = (w : Way) (n : ℕ) → IsRead (format w n)
+
+-- octets that lead up to a body are not lacking, since the message has them: no head stops there
+abbrev pub PaddingIsThere : Type 0
+PaddingIsThere = (n p : ℕ) (o : List ℕ) (fault : HeadErr) (at : ℕ) → p + length o ≡ n → PaddingStops n p o fault at → ⊥
 
 -- ---- what is sent
 

@@ -17,7 +17,8 @@ mod versions;
 pub use call::{GiopCall, GiopRequest, read_call, read_request};
 pub use header::{Heading, Way};
 pub use laws::{
-    begins_or_stops, heads_are_read, own_refusals_have_octets, replies_are_read, requests_are_read,
+    begins_or_stops, heads_are_read, own_refusals_have_octets, padding_is_there, replies_are_read,
+    requests_are_read,
 };
 pub use refusals::{put_addressing, put_refusal, put_size};
 pub use reply::read_reply;
