@@ -1,7 +1,7 @@
 -- The parts of a stream, by the messages that were given and by what is kept.
 use Rattle.std.proofs.Common.{◌≡◌, ◌≢◌, ℕ, List, [], ◌∷◌, ◌++◌, map, refl, sym, ap, ◌∙◌, append_assoc, append-nil, subst}
 use Rattle.std.proofs.lemmas.List.{map-append}
-use Rattle.std.specs.Prelude.{Some, None}
+use Rattle.std.specs.Prelude.{Option, Some, None}
 use Rattle.wire_def.specs.declared.encoding.Back.{Back}
 use Rattle.wire_frames.specs.declared.frames.FrameErr.{FrameErr}
 use Rattle.wire_frames.specs.declared.messages.Part.{Part}
@@ -9,7 +9,7 @@ use Rattle.wire_frames.specs.declared.messages.Part.TheVariants as part
 use Rattle.wire_frames.specs.First.{bad, more, first}
 use Rattle.wire_frames.specs.Cut.{Cut, HasGiven, before, cut}
 use Rattle.wire_frames.specs.Reading.{ending, parts}
-use Rattle.wire_frames.proofs.Cutting.{cut_bad, cut_more, cuts_go_on, pieces_are_cut}
+use Rattle.wire_frames.proofs.Cutting.{cut_bad, cut_more, cuts_go_on, faults_stay, pieces_are_cut}
 use Rattle.wire_frames.proofs.Staying.{IsSettled, first_stays}
 
 -- the parts of a stream that is cut so
@@ -37,6 +37,18 @@ pub parts-grow : (back : Back) (s t : List ℕ)
     → parts back (s ++ t) ≡ map part.Message (cut back s).messages ++ parts back ((cut back s).rest ++ t)
 parts-grow back s t =
     ap parts_of (cuts_go_on back s t) ∙ parts_before (cut back s).messages (cut back ((cut back s).rest ++ t))
+
+-- a fault ends the parts, whatever is behind it
+same_ending : (o : Option FrameErr) (e : FrameErr) (rest behind : List ℕ) → o ≡ Some e → ending o rest ≡ ending o behind
+same_ending None e rest behind is = absurd (cc is)
+same_ending (Some f) e rest behind is = refl
+
+-- what follows a fault does not change the parts
+pub parts-stay : (back : Back) (s t : List ℕ) (e : FrameErr) → (cut back s).fault ≡ Some e → parts back (s ++ t) ≡ parts back s
+parts-stay back s t e is =
+    let c = cut back s in
+    ap parts_of (faults_stay back s t e is)
+    ∙ ap (λ (l : List Part). map part.Message c.messages ++ l) (same_ending c.fault e (c.rest ++ t) c.rest is)
 
 -- of the octets that were fed these messages were given, and these octets are kept
 module _ (back : Back) (fed kept : List ℕ) (ms : List (List ℕ)) (given : HasGiven back fed ms kept) where
