@@ -1,5 +1,5 @@
 -- The answers of `marshal` and `reply`: the messages of request records, and of reply records.
-use Rattle.std.specs.Prelude.{◌≡◌, ◌⊎◌, ℕ, List, length, nat_le, ◌==◌, if◌then◌else◌, Option, Some, None, Result, Ok, Err, codes}
+use Rattle.std.specs.Prelude.{◌≡◌, ◌⊎◌, ◌≤◌, ℕ, List, length, nat_le, ◌==◌, if◌then◌else◌, slice_index, unwrap_or, Option, Some, None, Result, Ok, Err, codes}
 use Rattle.std.specs.Str.Lossy.{utf8_valid_len}
 use Rattle.kit_base.specs.Limits.{longest_message}
 use Rattle.hex.specs.Hex.{encode_lower}
@@ -72,3 +72,14 @@ IsMarshalled b line a = IsOfTree (request_of b) (call_digits b) (tree_of line) a
 -- the answer to a line as a reply record: the message of its reply
 abbrev pub IsReplied : Binding → List ℕ → List ℕ → Type 0
 IsReplied b line a = IsOfTree (reply_of b) (reply_digits b) (tree_of line) a
+
+-- ---- a message in a buffer
+
+-- the answer to a line, by its refusal where there is one, and otherwise by the message that is held
+abbrev pub text_in : Option (List ℕ) → List ℕ → List ℕ
+text_in refusal held = unwrap_or refusal (encode_lower held)
+
+-- a refusal, which begins with `!`, or else a message of at most 4,194,304 octets that is held
+abbrev pub IsEither : Option (List ℕ) → List ℕ → Type 0
+IsEither None held = length held ≤ longest_message
+IsEither (Some refusal) held = slice_index refusal 0 ≡ 33
