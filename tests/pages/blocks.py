@@ -12,6 +12,9 @@ grammar   onc, corba or mig: the rules by which tests/model reads files of the l
 touched   WHAT = NEIGHBOUR || ..: what may be added, and the files of src/ and specs/ that name a thing like it
 variants  CRATE ENUM: LINE = VARIANT || ..: lines of stub code, each with the doc line of its variant
 items     CRATE NAME NAME..: what a crate gives to others, each with the first sentence of its doc line
+head      PATH: what a program of the repository writes of itself
+counts    the counts of bench/run, each with its first line
+limits    the limits that several crates keep
 tools     PATH PATH..: programs of the repository, each with its words and what it does, by the first lines of its own text
 worked    the codes that tests/model runs, with what they send and cost
 vectors   how many vectors there are, by category and back end, and what they ask
@@ -182,6 +185,21 @@ def tools(arguments):
     return ["| Run | What it does |", "|---|---|", *rows]
 
 
+def head(path):
+    return ["```", *re.search(r'^"""(.*?)\n"""', content(path), re.S | re.M)[1].split("\n"), "```"]
+
+
+def counts(_):
+    found = re.findall(r'^def (\w+)\(\):\n    """(.*?)(?:"""|\n)', content("bench/run"), re.M)
+    return ["| Count | What it counts |", "|---|---|", *(f"| `{name}` | {said.rstrip('.')} |" for name, said in found if re.search(rf'\("[\w ]+", {name}, ', content("bench/run")))]
+
+
+def limits(_):
+    text = content("crates/kit_base/src/limits.rt")
+    found = re.findall(r"((?:^/// .*\n)+)pub const \w+: \w+ = ([\d_]+);", text, re.M)
+    return ["| | |", "|---|---|", *(f"| {' '.join(re.findall('/// (.*)', said)).rstrip('.')} | {int(n.replace('_', '')):,} |" for said, n in found)]
+
+
 def of_model(code):
     """What a program over tests/model writes, which is JSON."""
     run = subprocess.run([sys.executable, "-B", "-c", f"import json, sys; sys.path.insert(0, {TOP + '/tests/model'!r}); {code}"], check=True, capture_output=True, text=True)
@@ -236,7 +254,7 @@ def stages(arguments):
     return ["| After | Code |", "|---|---|", *(f"| `{what}` | `{in_line(text)}` |" for what, text in rows)]
 
 
-KINDS = {"lowered": lowered, "tools": tools, "vectors": vectors, "items": items, "variants": variants, "worked": worked, "stages": stages, "words": words, "grammar": grammar, "touched": touched, "usage": usage, "session": session, "octets": octets, "refused": refused, "crates": crates}
+KINDS = {"head": head, "counts": counts, "limits": limits, "lowered": lowered, "tools": tools, "vectors": vectors, "items": items, "variants": variants, "worked": worked, "stages": stages, "words": words, "grammar": grammar, "touched": touched, "usage": usage, "session": session, "octets": octets, "refused": refused, "crates": crates}
 
 
 def page(written):
