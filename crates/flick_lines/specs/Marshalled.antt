@@ -57,18 +57,18 @@ abbrev pub IsOfTree : Beginning → Texts → Option Data → List ℕ → Type 
 IsOfTree begun text_of None a = a ≡ codes "! json"
 IsOfTree begun text_of (Some tree) a = IsOfRecord text_of (begun tree) a
 
--- the message of a call in digits
-abbrev pub call_digits : Binding → Texts
-call_digits b op h v = digits_of (message b op h v)
+-- the message of a call, in a version, in digits
+abbrev pub call_digits : Binding → ℕ → Texts
+call_digits b m op h v = digits_of (message b m op h v)
 
--- the message of a reply in digits
-abbrev pub reply_digits : Binding → Texts
-reply_digits b op h v = digits_of (reply_message b op h v)
+-- the message of a reply, in a version, in digits
+abbrev pub reply_digits : Binding → ℕ → Texts
+reply_digits b m op h v = digits_of (reply_message b m op h v)
 
--- the answer to a line as a request record, without its line feed: the message of its call
-abbrev pub IsMarshalled : Binding → List ℕ → List ℕ → Type 0
-IsMarshalled b line a = IsOfTree (request_of b) (call_digits b) (tree_of line) a
+-- the answer to a line as a request record, without its line feed: the message of its call in a version
+abbrev pub IsMarshalled : Binding → ℕ → List ℕ → List ℕ → Type 0
+IsMarshalled b m line a = IsOfTree (request_of b) (call_digits b m) (tree_of line) a
 
--- the answer to a line as a reply record: the message of its reply
-abbrev pub IsReplied : Binding → List ℕ → List ℕ → Type 0
-IsReplied b line a = IsOfTree (reply_of b) (reply_digits b) (tree_of line) a
+-- the answer to a line as a reply record: the message of its reply in a version
+abbrev pub IsReplied : Binding → ℕ → List ℕ → List ℕ → Type 0
+IsReplied b m line a = IsOfTree (reply_of b) (reply_digits b m) (tree_of line) a

@@ -30,7 +30,7 @@ pub fn marshal(
     scratch: &mut Scratch,
     buf: &mut SendBuf,
 ) -> Result<Octets, NoMemory>
-    ensures value { IfOk result (λ o. IsMarshalled engine.now.binding line.now o) }
+    ensures value { IfOk result (λ o. IsMarshalled engine.now.binding engine.now.minor line.now o) }
     ensures spent { NoneFell buf.old.spent buf.new.spent }
     ensures paid { OnOk result (IsPaid verbs.Marshal engine.now line.now buf.old buf.new) }
 {
@@ -47,7 +47,7 @@ fn by_tree(
     line: &[u8],
     buf: &mut SendBuf,
 ) -> Result<Octets, NoMemory>
-    ensures value { IfOk result (λ o. IsMarshalled engine.now.binding line.now o) }
+    ensures value { IfOk result (λ o. IsMarshalled engine.now.binding engine.now.minor line.now o) }
     ensures spent { NoneFell buf.old.spent buf.new.spent }
     ensures paid { OnOk result (IsPaid verbs.Marshal engine.now line.now buf.old buf.new) }
 {
@@ -83,7 +83,7 @@ fn of_tree(
     json: &Json,
     buf: &mut SendBuf,
 ) -> Result<Octets, NoMemory>
-    ensures value { IfOk result (λ o. IsOfRecord (call_digits engine.now.binding)
+    ensures value { IfOk result (λ o. IsOfRecord (call_digits engine.now.binding engine.now.minor)
         (request_of engine.now.binding (view json.now)) o) }
     ensures spent { NoneFell buf.old.spent buf.new.spent }
     ensures paid { OnOk result (IsPaidRecord (call_by_code engine.now)
@@ -120,7 +120,7 @@ fn digits_of(
     requires typed { IfSome (slice_get engine.now.binding.ops record.now.op)
         (λ o. IsWellTyped (type_at engine.now.binding.nodes o.request) (seen record.now.value)) }
     ensures value { IfOk result (λ o. o ≡ digits_of
-        (message engine.now.binding record.now.op record.now.head (seen record.now.value))) }
+        (message engine.now.binding engine.now.minor record.now.op record.now.head (seen record.now.value))) }
     ensures spent { NoneFell buf.old.spent buf.new.spent }
     ensures paid { OnOk result (call_by_code engine.now record.now.op record.now.head
         (seen record.now.value) buf.old buf.new) }

@@ -6,7 +6,7 @@ use Rattle.flick_lines.proofs.marshalled.marshal.Goals as goal
 pub returns-in-Some-clause-value : goal.returns-in-Some-clause-value
 returns-in-Some-clause-value c =
     let b = c.args.engine.now.binding in
-    if-ok _ _ _ (usual-value (call_digits b) b c.args.line.now c.in-Some.record
+    if-ok _ _ _ (usual-value (call_digits b c.args.engine.now.minor) b c.args.line.now c.in-Some.record
     (rw c.in-Some.is at c.in_ok-record.ensures.request)) c.digits_of.ensures.value
 
 pub returns-in-Some-clause-paid : goal.returns-in-Some-clause-paid

@@ -18,5 +18,5 @@ returns-in-Ok-clause-ok c =
     let begins = (c.read_call.ensures.spells c.in-Ok.call).0 c.in-Ok.is in
     let ok = rw c.reply_head-head.ensures at c.put_refusal-in-Mach.ensures.ok in
     let head = reply_head c.args.self.now.binding.back c.args.called.now.head in
-    mach_refuses c.put_refusal-in-Mach.result c.args.self.now.binding c.args.message.now head c.args.why.now
+    mach_refuses c.put_refusal-in-Mach.result c.args.self.now.binding c.args.called.now.minor c.args.message.now head c.args.why.now
     (Some c.put_refusal-in-Mach.new.buf.done) c.in-Ok.call is begins ok
