@@ -219,7 +219,8 @@ impl Engine {
         requires stops { Stops self.now.binding.back message.now fault }
         requires empty { buf.old.done ≡ [] }
         ensures serves { IfOk result (λ s.
-            AnswersFault self.now.binding.back self.now.minor self.now.binding message.now fault (reply_in s buf.new.done)) }
+            AnswersFault self.now.binding.back self.now.minor self.now.binding message.now fault
+            (reply_in s buf.new.done)) }
         ensures silent { (result ≡ Ok Served.Silent) → buf.new.done ≡ [] }
         ensures spent { NoneFell buf.old.spent buf.new.spent }
     {

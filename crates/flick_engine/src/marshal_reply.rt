@@ -39,14 +39,16 @@ impl Engine {
         ensures short { OnOk result
             (IsShort (reply_message self.now.binding self.now.minor op head.now (seen value.now))) }
         ensures cost { OnOk result
-            (IsAnsweredByCode self.now.stubs self.now.minor op head.now (seen value.now) buf.old.spent buf.new) }
+            (IsAnsweredByCode self.now.stubs self.now.minor op head.now (seen value.now)
+            buf.old.spent buf.new) }
         // What its code does.
         ensures covered { IsCoveredAnswer self.now self.now.minor op head.now (seen value.now) }
         ensures sparing { IsSparingAnswer self.now self.now.minor op head.now (seen value.now) }
         // When it is not made, and what stays.
         ensures err { OnErr result (buf.new.done ≡ []) }
         ensures long { (result ≡ Err MarshalErr.Long)
-            → longest_message < length (reply_message self.now.binding self.now.minor op head.now (seen value.now)) }
+            → longest_message
+            < length (reply_message self.now.binding self.now.minor op head.now (seen value.now)) }
         ensures spent { NoneFell buf.old.spent buf.new.spent }
     {
         self.reply_in_version(op, self.minor(), head, value, buf)

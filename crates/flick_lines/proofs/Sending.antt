@@ -176,7 +176,8 @@ pub call_runs : (c : Coded) → IsRun (call_sent c) (call_by_code c)
 call_runs c op h v old new ran stands = message_runs (message c.binding c.minor) (sent_cost c.stubs) op h v old new ran stands
 
 reply_runs : (c : Coded) → IsRun (reply_sent c) (reply_by_code c)
-reply_runs c op h v old new ran stands = message_runs (reply_message c.binding c.minor) (answer_cost c.stubs c.minor) op h v old new ran stands
+reply_runs c op h v old new ran stands =
+    message_runs (reply_message c.binding c.minor) (answer_cost c.stubs c.minor) op h v old new ran stands
 
 -- ---- a verb
 

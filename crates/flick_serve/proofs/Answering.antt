@@ -95,7 +95,8 @@ line_served s t places kept line (Err e) same serving is h = tt
 pub lines_served : (s t : Serving) (places : Places) → t ≡ s → IsServing t places → IsFit t.coded.binding → (line : List ℕ)
     → (a : List ℕ) × IsServed s.coded.binding s.coded.minor s.text line a
 lines_served s t places same serving fit line =
-    subst (λ (x : Serving). (a : List ℕ) × IsServed x.coded.binding x.coded.minor x.text line a) same (served_somewhat t places serving fit line)
+    subst (λ (x : Serving). (a : List ℕ) × IsServed x.coded.binding x.coded.minor x.text line a) same
+    (served_somewhat t places serving fit line)
 
 -- ---- one alone
 

@@ -159,7 +159,8 @@ message_somehow c answer (Ok o) a (x, serves, is) =
     (sends (unwrap_or x []) k, (x, k, serves, cost, refl))
 
 -- of a line that is answered something is sent, or nothing
-pub some_sending : (s : Serving) (line a : List ℕ) → IsServed s.coded.binding s.coded.minor s.text line a → (x : Sending) × IsServeSent s line x
+pub some_sending : (s : Serving) (line a : List ℕ) → IsServed s.coded.binding s.coded.minor s.text line a
+    → (x : Sending) × IsServeSent s line x
 some_sending s line a (g, gives, is) =
     let (x, sent) = message_somehow s.coded (answer_of s.coded.binding g) (decode_of line) a is in
     (x, (g, gives, sent))

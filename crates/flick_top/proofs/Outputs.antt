@@ -107,7 +107,8 @@ verb_alike v d e alike = record {
 
 acts_alike : (a : Action) (d e : Coded) → AreAlike (IsOverCodes a) d e → (words : List (List ℕ)) (files : Files) (t u : Task)
     → Acts a d words files t → Acts a e words files u → AreTasks t u
-acts_alike (actions.Serve replies) d e alike words files t u p q = serves_file d e alike.twins alike.minors (files (word_at words replies)) t u p q
+acts_alike (actions.Serve replies) d e alike words files t u p q =
+    serves_file d e alike.twins alike.minors (files (word_at words replies)) t u p q
 acts_alike (actions.Answer v) d e alike words files t u p q =
     tasks_by t u (answering_task (text_before v d) (jobs.Over v d)) (answering_task (text_before v e) (jobs.Over v e)) p q
     (record { text = before_alike v d e (verb_alike v d e alike); status = refl; feeds = (refl, verb_alike v d e alike) })

@@ -100,6 +100,7 @@ messages_alike b c t m number many = go (length b.ops == 0) refl where
       rw (e, also)
       (from_alike (made_message b m number) (made_message c m number) 0 many (made_message_alike b c t m some number))
 
-pub made_alike : (b c : Binding) (m n : ℕ) → AreTwins b c → m ≡ n → (number many : ℕ) → make_text b m number many ≡ make_text c n number many
+pub made_alike : (b c : Binding) (m n : ℕ) → AreTwins b c → m ≡ n → (number many : ℕ)
+    → make_text b m number many ≡ make_text c n number many
 made_alike b c m n t same number many =
     ap (λ (ms : List (List ℕ)). made_line ms) (messages_alike b c t m number many) ∙ ap (λ (k : ℕ). make_text c k number many) same

@@ -8,6 +8,7 @@ use Rattle.cast_stub.specs.declared.send.SendCode.{SendCode}
 use Rattle.stub_lower.specs.Leads.{Leads}
 use Rattle.pres.specs.Bindings.{Binding}
 use Rattle.giop_head.specs.Header.{IsMinor}
+use Rattle.giop_head.proofs.Headers.{minors}
 use Rattle.head_arms.specs.Raised.{exceptions}
 use Rattle.back_xdr.specs.Leads as xdr_leads
 use Rattle.back_xdr.specs.Procedures.{procedure_of}
@@ -44,10 +45,10 @@ are_reply_heads back.Mach b m op arm = mach_reply_heads b op (exceptions b op) a
 
 -- a minor number of GIOP, over a back end of this format
 pub minor_over : (k : Back) (m : ℕ) → IsCdr k → IsMinor m → IsMinorOver k m
-minor_over k zero cdr is = inl refl
-minor_over k (suc zero) cdr is = absurd cc
-minor_over k (suc (suc zero)) cdr is = inr (refl, cdr)
-minor_over k (suc (suc (suc m))) cdr is = absurd cc
+minor_over k m cdr is = either (minors m is) where
+  either : (m ≡ 0) ⊎ (m ≡ 2) → IsMinorOver k m
+  either (inl first) = inl first
+  either (inr second) = inr (second, cdr)
 
 -- and back
 pub minor_of : (k : Back) (m : ℕ) → IsMinorOver k m → IsMinor m
@@ -77,7 +78,8 @@ cdr_over back.Xdr b m op code cdr h = absurd cc
 cdr_over back.Mach b m op code cdr h = absurd cc
 
 pub cdr_lead : (b : Binding) (m op : ℕ) (r : Result SendCode NoMemory) → IsCdr b.back
-    → IfOk r (λ code. Leads (λ h. cdr_leads.lead m (has_body b op) (order_of b.back) (target_of b op) h.id) code) → IfOk r (λ code. Leads (lead b m op) code)
+    → IfOk r (λ code. Leads (λ h. cdr_leads.lead m (has_body b op) (order_of b.back) (target_of b op) h.id) code)
+    → IfOk r (λ code. Leads (lead b m op) code)
 cdr_lead b m op (Ok code) cdr h = cdr_over b.back b m op code cdr h
 cdr_lead b m op (Err x) cdr h = tt
 
@@ -93,7 +95,8 @@ along_reply b m op arm k (Ok code) e h = subst (λ (x : Back). Leads (reply_lead
 along_reply b m op arm k (Err x) e h = tt
 
 pub xdr_reply_lead : (b : Binding) (m op arm : ℕ) (r : Result SendCode NoMemory) → b.back ≡ back.Xdr
-    → IfOk r (λ code. Leads (λ h. xdr_leads.reply_lead (exceptions b op) arm h.id) code) → IfOk r (λ code. Leads (reply_lead b m op arm) code)
+    → IfOk r (λ code. Leads (λ h. xdr_leads.reply_lead (exceptions b op) arm h.id) code)
+    → IfOk r (λ code. Leads (reply_lead b m op arm) code)
 xdr_reply_lead b m op arm r e h = along_reply b m op arm back.Xdr r e h
 
 pub mach_reply_lead : (b : Binding) (m op arm : ℕ) (r : Result SendCode NoMemory) → b.back ≡ back.Mach

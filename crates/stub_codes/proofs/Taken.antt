@@ -18,6 +18,7 @@ use Rattle.back_xdr.specs.Call.{Call, call_octets}
 use Rattle.back_xdr.specs.Seeking as xdr_seeking
 use Rattle.back_cdr.specs.Seeking as cdr_seeking
 use Rattle.back_cdr.specs.Targets.{IsCdr}
+use Rattle.back_cdr.proofs.Named.{minor_called}
 use Rattle.back_mach.specs.declared.call.MachCall.{MachCall}
 use Rattle.back_mach.specs.Header.{SixSpell}
 use Rattle.back_mach.specs.Seeking as mach_seeking
@@ -47,9 +48,11 @@ xdr_taken b o c (call, (head, used, begins, is), same) =
     let long : used ≡ length (take used o) = omega (arith, length-take used o, begins.0) in
     let four : used % 4 ≡ 0 = ap (λ (n : ℕ). n % 4) (long ∙ whole) ∙ call_whole head in
     let mine : used ≡ c.used = ap (λ (t : OncCall). t.used) is ∙ ap (λ (t : Called). t.used) same in
-    let lies : Xdr ≡ c.encoding = ap (λ (t : Called). t.encoding) same in
-    (inl (sym lies), subst (λ (e : Encoding). IsPlace e c.used) lies (subst (λ (n : ℕ). n % 4 ≡ 0) mine four),
-      inl (sym (ap (λ (t : Called). t.minor) same)))
+    let lies : Xdr ≡ c.encoding = ap (λ (t : Called). t.encoding) same in (
+      inl (sym lies),
+      subst (λ (e : Encoding). IsPlace e c.used) lies (subst (λ (n : ℕ). n % 4 ≡ 0) mine four),
+      inl (sym (ap (λ (t : Called). t.minor) same)),
+    )
 
 -- ---- GIOP
 
@@ -83,9 +86,11 @@ mach_taken b o c (call, (head, used, begins, is), same) =
     let long : used ≡ length (take used o) = omega (arith, length-take used o, begins.0) in
     let four : used % 4 ≡ 0 = ap (λ (n : ℕ). n % 4) (long ∙ whole) in
     let mine : used ≡ c.used = ap (λ (t : MachCall). t.used) is ∙ ap (λ (t : Called). t.used) same in
-    let lies : Mach ≡ c.encoding = ap (λ (t : Called). t.encoding) same in
-    (inl (sym lies), subst (λ (e : Encoding). IsPlace e c.used) lies (subst (λ (n : ℕ). n % 4 ≡ 0) mine four),
-      inl (sym (ap (λ (t : Called). t.minor) same)))
+    let lies : Mach ≡ c.encoding = ap (λ (t : Called). t.encoding) same in (
+      inl (sym lies),
+      subst (λ (e : Encoding). IsPlace e c.used) lies (subst (λ (n : ℕ). n % 4 ≡ 0) mine four),
+      inl (sym (ap (λ (t : Called). t.minor) same)),
+    )
 
 -- ---- all of them
 

@@ -34,9 +34,11 @@ impl Codes {
         requires op { op < length self.now.binding.ops }
         requires typed { IsWellTyped (request_type self.now.binding op) (seen value.now) }
         // What `Ok` holds.
-        ensures ok { OnOk result (buf.new.done ≡ message self.now.binding self.now.minor op head.now (seen value.now)) }
+        ensures ok { OnOk result
+            (buf.new.done ≡ message self.now.binding self.now.minor op head.now (seen value.now)) }
         ensures short { OnOk result
-            (length (message self.now.binding self.now.minor op head.now (seen value.now)) ≤ longest_message) }
+            (length (message self.now.binding self.now.minor op head.now (seen value.now))
+            ≤ longest_message) }
         ensures tally { OnOk result
             (option_map (paid none) (sent_cost self.now.stubs op head.now (seen value.now))
             ≡ Some buf.new.tally) }
@@ -48,7 +50,8 @@ impl Codes {
         ensures sparing { IsSparingRequest self.now op head.now (seen value.now) }
         // When each error comes.
         ensures long { (result ≡ Err SendErr.Long)
-            → longest_message < length (message self.now.binding self.now.minor op head.now (seen value.now)) }
+            → longest_message
+            < length (message self.now.binding self.now.minor op head.now (seen value.now)) }
         // What stays the same.
         ensures err { OnErr result (buf.new.done ≡ []) }
         ensures stands { NoneFell buf.old.spent buf.new.spent }

@@ -9,7 +9,9 @@ use Rattle.flick_lines.proofs.marshalled.of_tree.Goals as goal
 
 pub returns-in-Ok-clause-value : goal.returns-in-Ok-clause-value
 returns-in-Ok-clause-value c =
-    if-ok _ _ _ (of-value (call_digits c.args.engine.now.binding c.args.engine.now.minor) _ c.in-Ok.record (rw c.bound.ensures.value at c.in-Ok.ensures.comes))
+    if-ok _ _ _
+    (of-value (call_digits c.args.engine.now.binding c.args.engine.now.minor) _ c.in-Ok.record
+    (rw c.bound.ensures.value at c.in-Ok.ensures.comes))
     c.digits_of.ensures.value
 
 pub returns-in-Err-clause-value : goal.returns-in-Err-clause-value

@@ -1,4 +1,5 @@
 use Rattle.std.proofs.Common.{◌∙◌, inl, inr, ap, refl, Bool, List, ℕ, Some}
+use Rattle.std.proofs.lemmas.Result.{IfOk-weaker}
 use Rattle.giop_head.specs.Reported.{addressed, call_seen, requested, sought}
 use Rattle.flick_engine.specs.Refusals.{locate_octets}
 use Rattle.flick_engine.proofs.Replying.{passed_over, reported_wrong}

@@ -2,6 +2,9 @@ use Rattle.mint.specs.Values.{seen}
 use Rattle.flick_engine.proofs.Arming.{covered-as, sparing-as}
 use Rattle.flick_engine.proofs.engine.Engine.reply_in_version.Goals as goal
 
+pub reply-requires-clause-minor : goal.reply-requires-clause-minor
+reply-requires-clause-minor c = rw c.stubs.ensures c.requires.minor
+
 pub reply-requires-clause-arm : goal.reply-requires-clause-arm
 reply-requires-clause-arm c = rw c.stubs.ensures c.reply_arm-arm.ensures.there
 
