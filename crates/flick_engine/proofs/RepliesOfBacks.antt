@@ -25,7 +25,6 @@ use Rattle.giop_head.specs.Items.{laid}
 use Rattle.giop_head.specs.Reply as giop_reply
 use Rattle.giop_head.specs.Reported as giop_reported
 use Rattle.giop_head.proofs.Lawful as giop_lawful
-use Rattle.giop_head.proofs.Sent.{begins}
 use Rattle.back_cdr.specs.Targets.{IsCdr, target_of}
 use Rattle.back_cdr.proofs.Growing.{long_reply}
 use Rattle.back_mach.specs.Heads as mach

@@ -1,5 +1,5 @@
 -- How messages are answered, by what the parts of the code answer.
-use Rattle.std.proofs.Common.{◌≡◌, inl, inr, ℕ, zero, suc, ◌<◌, List, [], ◌∷◌, Bool, true, false, Some, None, length, map, refl, sym, ap, ◌∙◌, subst}
+use Rattle.std.proofs.Common.{◌≡◌, ◌⊎◌, inl, inr, ℕ, zero, suc, ◌<◌, List, [], ◌∷◌, Bool, true, false, Some, None, length, map, refl, sym, ap, ◌∙◌, subst}
 use Rattle.std.specs.Prelude.{MatchBool, Option, Result, Ok, Err, IfOk, OnOk, slice_get, slice_index_or, if◌then◌else◌}
 use Rattle.std.proofs.lemmas.Result.{IfOk-weaker}
 use Rattle.kit_base.specs.Limits.{longest_message}
@@ -13,6 +13,7 @@ use Rattle.wire_def.specs.declared.outcome.Refusal.{Refusal}
 use Rattle.head_kit.specs.declared.called.Called.{Called}
 use Rattle.pres.specs.declared.ops.Op.{Op}
 use Rattle.pres.specs.Bindings.{Binding}
+use Rattle.giop_head.specs.Header.{IsMinor}
 use Rattle.giop_head.specs.Printed.{header_octets}
 use Rattle.back_mach.specs.declared.call.MachCall.{MachCall}
 use Rattle.back_mach.specs.Refusals as mach
@@ -21,7 +22,7 @@ use Rattle.flick_engine.specs.declared.errors.MessageErr.{MessageErr}
 use Rattle.flick_engine.specs.declared.errors.MessageErr.TheVariants as err
 use Rattle.flick_engine.specs.declared.requests.Request.{Request}
 use Rattle.flick_engine.specs.declared.serve.Served.{Served}
-use Rattle.flick_engine.specs.Backs.{Begins, Stops}
+use Rattle.flick_engine.specs.Backs.{IsMinorOver, Begins, Stops}
 use Rattle.flick_engine.specs.Received.{Answers, IsShort, ReadCall, asked}
 use Rattle.flick_engine.specs.Refusals.{reply_head, long_reply, RefusesOver, is_passed_over, giop_answer, AnswersFault}
 use Rattle.flick_engine.specs.Replies.{reply_message}
@@ -113,6 +114,11 @@ module _ (m : ℕ) (r : Order) (o : List ℕ) (e : HeadErr) (t : Bool) (is : t �
       (λ (z : Bool). Some d ≡ (if z then None else Some (header_octets m r 6))) (sym (sym is ∙ shown)) (ap (λ (x : List ℕ). Some x) same)
 
 -- ---- replies that refuse
+
+-- the version of a back end is one of GIOP
+pub minor_over : (k : Back) (m : ℕ) → IsMinorOver k m → IsMinor m
+minor_over k m (inl is) = subst IsMinor (sym is) refl
+minor_over k m (inr (is, cdr)) = subst IsMinor (sym is) refl
 
 module _ {A E : Type 0} (r : Result A E) (b : Binding) (m : ℕ) (o : List ℕ) (head : Head) (why : Refusal) (x : Option (List ℕ)) where
   pub refuses_by : (k : Back) → b.back ≡ k → OnOk r (RefusesOver k m o head why x) → OnOk r (RefusesOver b.back m o head why x)

@@ -93,11 +93,7 @@ pub(crate) fn put_locate_reply(
 }
 
 /// Puts the message of a version that answers one that is wrong: a header alone.
-pub(crate) fn put_message_error(
-    minor: u8,
-    order: Order,
-    buf: &mut SendBuf,
-) -> Result<(), NoMemory>
+pub(crate) fn put_message_error(minor: u8, order: Order, buf: &mut SendBuf) -> Result<(), NoMemory>
     requires { buf.old.done ≡ [] }
     ensures ok { OnOk result (buf.new.done ≡ header_octets minor order 6) }
     ensures spent { NoneFell buf.old.spent buf.new.spent }

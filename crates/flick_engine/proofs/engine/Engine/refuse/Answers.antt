@@ -1,19 +1,18 @@
 use Rattle.std.proofs.Common.{Some, ap, sym, ◌∙◌}
 use Rattle.pres.specs.Bindings.{Binding}
 use Rattle.flick_engine.specs.Refusals.{reply_head}
-use Rattle.stub_codes.proofs.Leading.{minor_of}
-use Rattle.flick_engine.proofs.Replying.{mach_refuses}
+use Rattle.flick_engine.proofs.Replying.{mach_refuses, minor_over}
 use Rattle.flick_engine.proofs.Searching.{mach_call}
 use Rattle.flick_engine.proofs.engine.Engine.refuse.Goals as goal
 
 pub put_refusal-requires-in-CdrBig-clause-minor : goal.put_refusal-requires-in-CdrBig-clause-minor
 put_refusal-requires-in-CdrBig-clause-minor c =
-    minor_of c.args.self.now.binding.back c.args.called.now.minor
+    minor_over c.args.self.now.binding.back c.args.called.now.minor
     (c.bodies_are_taken.ensures c.args.self.now.binding c.args.message.now c.args.called.now c.requires.begins).2
 
 pub put_refusal-requires-in-CdrLittle-clause-minor : goal.put_refusal-requires-in-CdrLittle-clause-minor
 put_refusal-requires-in-CdrLittle-clause-minor c =
-    minor_of c.args.self.now.binding.back c.args.called.now.minor
+    minor_over c.args.self.now.binding.back c.args.called.now.minor
     (c.bodies_are_taken.ensures c.args.self.now.binding c.args.message.now c.args.called.now c.requires.begins).2
 
 pub unreachable-requires : goal.unreachable-requires
