@@ -1,6 +1,6 @@
 //! What the words name: those of the run that is explained, and the file of its input.
 
-use flick_engine::back_of;
+use flick_engine::wire_of;
 use idl_lex::Front;
 use kit_base::{Octets, Words};
 use wire_def::Back;
@@ -130,7 +130,7 @@ fn make_of<'a>(verb: &Octets, front: &Octets, back: &Octets, path: &'a Octets) -
 /// The run of the words of a language and a format.
 fn run_in<'a>(verb: Verb, front: &Octets, back: &Octets, path: &'a Octets) -> Option<Run<'a>> {
     let front = front_of(front.as_slice())?;
-    let back = back_of(back.as_slice())?;
+    let back = wire_of(back.as_slice())?.back();
     Some(run_by(verb, front, back, path))
 }
 

@@ -189,6 +189,13 @@ const HEAD_TYPE: Cause = Cause {
     of_names: false,
 };
 
+const HEAD_TARGET: Cause = Cause {
+    what: "",
+    why: "the request names its object by a profile or a reference, and not by a key.",
+    repair: "let the client name it by its key, as the answer of serve asks for.",
+    of_names: false,
+};
+
 const HEAD_OTHER: Cause = Cause {
     what: "",
     why: "the head is not that of this format.",
@@ -212,6 +219,7 @@ fn head_cause(verb: Verb, has_kind: bool, kind: &[u8]) -> Cause {
         b"Short" => HEAD_SHORT,
         b"Type" if verb == Verb::Unreply => NOT_A_REPLY,
         b"Type" => HEAD_TYPE,
+        b"Target" => HEAD_TARGET,
         _ => HEAD_OTHER,
     }
 }

@@ -13,7 +13,7 @@ use Rattle.flick_top.specs.Items.{Item}
 
 pub one_text : (job : Job) (octets x y : List ℕ) → IsTextTo job octets x → IsTextTo job octets y → x ≡ y
 one_text (Over verb e) octets x y p q = one_to verb e octets x y p q
-one_text (Serve s) octets x y p q = line_once s.coded.binding s.text octets x y p q
+one_text (Serve s) octets x y p q = line_once s.coded.binding s.coded.minor s.text octets x y p q
 
 one_for : (job : Job) (octets : List ℕ) (s t : Sending) → IsSentFor job octets s → IsSentFor job octets t → s ≡ t
 one_for (Over verb e) octets s t p q = one_sent verb e octets s t p q

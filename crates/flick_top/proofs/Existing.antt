@@ -26,7 +26,7 @@ over_has job verb e is texts = subst TextsHave (sym is) (λ octets. texts verb o
 
 -- of a server
 pub serve_has : (job : Job) (s : Serving) → job ≡ Serve s
-    → ((octets : List ℕ) → (text : List ℕ) × IsServed s.coded.binding s.text octets text) → TextsHave job
+    → ((octets : List ℕ) → (text : List ℕ) × IsServed s.coded.binding s.coded.minor s.text octets text) → TextsHave job
 serve_has job s is texts = subst TextsHave (sym is) texts
 
 -- something is sent for it, or nothing

@@ -45,7 +45,8 @@ use Rattle.flick_top.proofs.TwinTexts.{before_alike, stubs_alike, made_alike}
 -- one verb over engines that answer alike, or servers over such engines with one text
 abbrev AreJobs : Job → Job → Type 0
 AreJobs (jobs.Over v d) (jobs.Over w e) = (v ≡ w) × AreAlike (w ≡ Count) d e
-AreJobs (jobs.Serve r) (jobs.Serve s) = AreTwins r.coded.binding s.coded.binding × (r.text ≡ s.text)
+AreJobs (jobs.Serve r) (jobs.Serve s) =
+    AreTwins r.coded.binding s.coded.binding × (r.coded.minor ≡ s.coded.minor) × (r.text ≡ s.text)
 AreJobs _ _ = ⊥
 
 -- no items, or those of jobs that answer alike
@@ -72,40 +73,42 @@ refused_alike : (saying : Saying) (d e : Coded) (t u : Task) → t ≡ saying_ta
 refused_alike saying d e t u p q =
     tasks_by t u (saying_task saying (Some d)) (saying_task saying (Some e)) p q (record { text = refl; status = refl; feeds = tt })
 
-given_alike : (d e : Coded) → AreTwins d.binding e.binding → (text : List ℕ) (x : Result Given ℕ) (t u : Task)
+given_alike : (d e : Coded) → AreTwins d.binding e.binding → d.minor ≡ e.minor → (text : List ℕ) (x : Result Given ℕ) (t u : Task)
     → t ≡ serving_task d text x → u ≡ serving_task e text x → AreTasks t u
-given_alike d e alike text (Ok g) t u p q =
+given_alike d e alike minors text (Ok g) t u p q =
     tasks_by t u (serving_task d text (Ok g)) (serving_task e text (Ok g)) p q
-    (record { text = refl; status = refl; feeds = (alike, refl) })
-given_alike d e alike text (Err line) t u p q = refused_alike (sayings.WrongReply line) d e t u p q
+    (record { text = refl; status = refl; feeds = (alike, minors, refl) })
+given_alike d e alike minors text (Err line) t u p q = refused_alike (sayings.WrongReply line) d e t u p q
 
-serves_text : (d e : Coded) → AreTwins d.binding e.binding → (text : List ℕ) (t u : Task) → ServesText d text t → ServesText e text u
-    → AreTasks t u
-serves_text d e alike text t u (x, gives, p) (y, also, q) =
+serves_text : (d e : Coded) → AreTwins d.binding e.binding → d.minor ≡ e.minor → (text : List ℕ) (t u : Task) → ServesText d text t
+    → ServesText e text u → AreTasks t u
+serves_text d e alike minors text t u (x, gives, p) (y, also, q) =
     let same : x ≡ y = given_once e.binding text x y (file_over d.binding e.binding alike text x gives) also in
-    given_alike d e alike text y t u (p ∙ ap (λ (z : Result Given ℕ). serving_task d text z) same) q
+    given_alike d e alike minors text y t u (p ∙ ap (λ (z : Result Given ℕ). serving_task d text z) same) q
 
-within_serves : (d e : Coded) → AreTwins d.binding e.binding → (text : List ℕ) (t u : Task) (b : Bool)
+within_serves : (d e : Coded) → AreTwins d.binding e.binding → d.minor ≡ e.minor → (text : List ℕ) (t u : Task) (b : Bool)
     → MatchBool b (ServesText d text t) (t ≡ saying_task sayings.LargeReplies (Some d))
     → MatchBool b (ServesText e text u) (u ≡ saying_task sayings.LargeReplies (Some e)) → AreTasks t u
-within_serves d e alike text t u true p q = serves_text d e alike text t u p q
-within_serves d e alike text t u false p q = refused_alike sayings.LargeReplies d e t u p q
+within_serves d e alike minors text t u true p q = serves_text d e alike minors text t u p q
+within_serves d e alike minors text t u false p q = refused_alike sayings.LargeReplies d e t u p q
 
-serves_file : (d e : Coded) → AreTwins d.binding e.binding → (content : Option (List ℕ)) (t u : Task)
+serves_file : (d e : Coded) → AreTwins d.binding e.binding → d.minor ≡ e.minor → (content : Option (List ℕ)) (t u : Task)
     → ServesFile d content t → ServesFile e content u → AreTasks t u
-serves_file d e alike None t u p q = refused_alike sayings.NoReplies d e t u p q
-serves_file d e alike (Some text) t u p q = within_serves d e alike text t u (nat_le (length text) longest_replies) p q
+serves_file d e alike minors None t u p q = refused_alike sayings.NoReplies d e t u p q
+serves_file d e alike minors (Some text) t u p q = within_serves d e alike minors text t u (nat_le (length text) longest_replies) p q
 
 -- where an action shows the codes, a verb that is `count` does
 verb_alike : (v : Verb) (d e : Coded) → AreAlike (IsOverCodes (actions.Answer v)) d e → AreAlike (v ≡ Count) d e
 verb_alike v d e alike = record {
   twins = alike.twins;
+  minors = alike.minors;
   codes = λ is. alike.codes (subst (λ (w : Verb). IsOverCodes (actions.Answer w)) (sym is) tt);
 }
 
 acts_alike : (a : Action) (d e : Coded) → AreAlike (IsOverCodes a) d e → (words : List (List ℕ)) (files : Files) (t u : Task)
     → Acts a d words files t → Acts a e words files u → AreTasks t u
-acts_alike (actions.Serve replies) d e alike words files t u p q = serves_file d e alike.twins (files (word_at words replies)) t u p q
+acts_alike (actions.Serve replies) d e alike words files t u p q =
+    serves_file d e alike.twins alike.minors (files (word_at words replies)) t u p q
 acts_alike (actions.Answer v) d e alike words files t u p q =
     tasks_by t u (answering_task (text_before v d) (jobs.Over v d)) (answering_task (text_before v e) (jobs.Over v e)) p q
     (record { text = before_alike v d e (verb_alike v d e alike); status = refl; feeds = (refl, verb_alike v d e alike) })
@@ -113,9 +116,9 @@ acts_alike actions.Stubs d e alike words files t u p q =
     tasks_by t u (writing_task (stubs_text d) [] (Some d)) (writing_task (stubs_text e) [] (Some e)) p q
     (record { text = stubs_alike d e alike.twins (alike.codes tt); status = refl; feeds = tt })
 acts_alike (actions.Make number many) d e alike words files t u p q =
-    tasks_by t u (writing_task (make_text d.binding number many) (all_sent d number many) (Some d))
-    (writing_task (make_text e.binding number many) (all_sent e number many) (Some e)) p q
-    (record { text = made_alike d.binding e.binding alike.twins number many; status = refl; feeds = tt })
+    tasks_by t u (writing_task (make_text d.binding d.minor number many) (all_sent d number many) (Some d))
+    (writing_task (make_text e.binding e.minor number many) (all_sent e number many) (Some e)) p q
+    (record { text = made_alike d.binding e.binding d.minor e.minor alike.twins alike.minors number many; status = refl; feeds = tt })
 
 over_reported : (a : Action) (r s : Reported) → AreReported (IsOverCodes a) r s → (words : List (List ℕ)) (files : Files) (t u : Task)
     → ActsOver a r words files t → ActsOver a s words files u → AreTasks t u
@@ -145,10 +148,11 @@ over_files codes others (Some (commands.Over a n)) words files t u shown (r, mr,
 
 text_over : (j k : Job) → AreJobs j k → (octets a : List ℕ) → IsTextTo j octets a → IsTextTo k octets a
 text_over (jobs.Over v d) (jobs.Over w e) (same, alike) octets a is =
-    answer_over w d e alike.twins (λ count. alike.codes count) octets a (subst (λ (z : Verb). IsAnswerTo z d octets a) same is)
-text_over (jobs.Serve r) (jobs.Serve s) (alike, same) octets a is =
-    served_over r.coded.binding s.coded.binding alike s.text octets a
-    (subst (λ (text : List ℕ). IsServed r.coded.binding text octets a) same is)
+    answer_over w d e alike.twins alike.minors (λ count. alike.codes count) octets a (subst (λ (z : Verb). IsAnswerTo z d octets a) same is)
+text_over (jobs.Serve r) (jobs.Serve s) (alike, minors, same) octets a is =
+    served_over r.coded.binding s.coded.binding alike s.coded.minor s.text octets a
+    (subst (λ (m : ℕ). IsServed r.coded.binding m s.text octets a) minors
+    (subst (λ (text : List ℕ). IsServed r.coded.binding r.coded.minor text octets a) same is))
 text_over (jobs.Over v d) (jobs.Serve s) h octets a is = absurd h
 text_over (jobs.Serve r) (jobs.Over w e) h octets a is = absurd h
 

@@ -28,7 +28,7 @@ answer_of octets sent = record { octets = octets; refused = is_refusal octets; s
 -- the text that answers the octets of a line, without its line feed
 abbrev pub IsTextTo : Job → List ℕ → List ℕ → Type 0
 IsTextTo (Over verb e) octets text = IsAnswerTo verb e octets text
-IsTextTo (Serve s) octets text = IsServed s.coded.binding s.text octets text
+IsTextTo (Serve s) octets text = IsServed s.coded.binding s.coded.minor s.text octets text
 
 -- what is sent for it
 abbrev pub IsSentFor : Job → List ℕ → Sending → Type 0

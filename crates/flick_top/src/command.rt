@@ -7,11 +7,10 @@ ghost use Rattle.flick_engine.specs.Backs as backs;
 
 use crate::fronts::front_of;
 use crate::numbers::number_in;
-use flick_engine::back_of;
+use flick_engine::{Wire, wire_of};
 use flick_lines::Verb;
 use idl_lex::Front;
 use kit_base::{Octets, Words};
-use wire_def::Back;
 
 /// The place of the word of a file of replies, from 0.
 const REPLIES: usize = 4;
@@ -45,13 +44,13 @@ pub enum Action {
     Make(u64, u32),
 }
 
-/// The file of a command, and its back end.
+/// The file of a command, and the format of its messages.
 #[derive(Clone, Copy, Debug, PartialEq, Eq)]
 pub struct Named {
     /// The language of the file.
     pub front: Front,
     /// Which messages are made.
-    pub back: Back,
+    pub wire: Wire,
     /// The place of the file's word, from 0.
     pub file: usize,
 }
@@ -85,18 +84,18 @@ fn option_of(word: &[u8]) -> Option<Command>
     None
 }
 
-/// The command of an action, a front end and a back end, before a file.
+/// The command of an action, a front end and a format of messages, before a file.
 fn over_file(action: Option<Action>, front: &[u8], back: &[u8]) -> Option<Command>
-    ensures value { result ≡ over_file action (fronts.front_of front.now) (backs.back_of back.now) }
+    ensures value { result ≡ over_file action (fronts.front_of front.now) (backs.wire_of back.now) }
 {
     let action = action?;
     let front = front_of(front)?;
-    let back = back_of(back)?;
+    let wire = wire_of(back)?;
     Some(Command::Over(
         action,
         Named {
             front,
-            back,
+            wire,
             file: 3,
         },
     ))

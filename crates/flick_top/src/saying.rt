@@ -37,8 +37,9 @@ commands:\n\
 \n\
 FRONT is the language of FILE: onc, for the ONC RPC language, corba, for CORBA IDL,\n\
 or mig, for MIG definitions.\n\
-BACK is xdr, for ONC messages, cdr-be or cdr-le, for GIOP messages in big or little\n\
-order, or mach, for typed messages in the manner of Mach 3.\n\
+BACK is xdr, for ONC messages, cdr-be or cdr-le, for messages of GIOP 1.0 in big or\n\
+little order, cdr12-be or cdr12-le, for those of GIOP 1.2, or mach, for typed messages\n\
+in the manner of Mach 3.\n\
 A request record or reply record is a line of JSON.\n\
 NUMBER is at most 18,446,744,073,709,551,615 and N at most 1,000,000.\n\
 \n\
