@@ -22,6 +22,7 @@ from nodes import ENOUGH, ITEMS, LONG, MOST_UNITS, SHORT, WIDTHS, arm_of, count_
 from samples import FileMaker, long_file, widened
 from stub_chunks import Phase, chunked
 from stub_runs import Undefined, received_by, sent_by
+from stub_takes import STARTS, joined
 from stub_texts import Stub, lines_of, stubs_of, text_of
 
 ORDER_OF = {"xdr": "big", "cdr_big": "big", "cdr_little": "little", "mach": "little"}
@@ -366,7 +367,7 @@ def stubs_text(back, interfaces):
     written = []
     for request in requests_of(back, interfaces):
         written.append(text_of(send_stub(back, request.interface, request.operation, request.nodes, request.id)))
-        code = receiving(ENCODINGS[back], request.nodes, request.id)
+        code = joined(STARTS[ENCODINGS[back]], receiving(ENCODINGS[back], request.nodes, request.id))
         written.append(text_of(Stub("recv", request.name, code, [])))
     return "".join(written)
 
@@ -450,7 +451,8 @@ def checked(rng, interfaces):
         requests = requests_of(back, interfaces)
         assert "".join(map(text_of, stubs_of(text))) == text
         yield back, "whole rows", stubs_wrong(rng, back, interfaces, text)
-        loops = [Stub("recv", request.name, receiving(ENCODINGS[back], request.nodes, request.id, whole=False), []) for request in requests]
+        start = STARTS[ENCODINGS[back]]
+        loops = [Stub("recv", request.name, joined(start, receiving(ENCODINGS[back], request.nodes, request.id, whole=False)), []) for request in requests]
         stubs = [stub for pair in zip(stubs_of(text)[::2], loops) for stub in pair]
         yield back, "loops", stubs_wrong(rng, back, interfaces, "".join(map(text_of, stubs)))
 
