@@ -130,13 +130,14 @@ def read_request(fields):
 
 
 def read_request_of_2(fields):
-    """The fields of a Request of 1.2. Where the target is no key, what follows it is not looked at."""
+    """The fields of a Request of 1.2, and where they end before what aligns a body. What follows a target that is no key is not looked at."""
     said = {"id": fields.long(), "wants": fields.block(1)[0] & 1 == 1}
     fields.block(3)
     if fields.target() != KEY:
         return {"ask": "addressing", **said}
     said.update(ask="request", key=fields.sequence(), name=fields.string())
     fields.contexts()
+    said["ends"] = fields.at
     fields.end()
     return said
 
