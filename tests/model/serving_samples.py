@@ -10,7 +10,7 @@ import random
 import sys
 
 import corba_samples
-from calls import BACKS, marshal
+from calls import BACKS, marshal, unmarshal
 from corba_names import interfaces_of
 from corba_nodes import told_of_names
 from files import interfaces_of as onc_interfaces_of
@@ -163,6 +163,21 @@ def unread(back, interfaces, line):
     return "" if again == message else f"{message} is read as {record}"
 
 
+def unlike(interfaces, line):
+    """What is wrong with a line of `marshal` or `reply` over CDR, or nothing: its messages of each order and version are read alike under each word, and replies are as long in each version."""
+    requests = {word: marshal(BACKS[word], interfaces, line) for word in OVER_CDR}
+    answers = {word: reply(REPLIES[word], interfaces, line) for word in OVER_CDR}
+    lengths = {len(answer) for answer in answers.values()}
+    if len(lengths) > 1:
+        return f"replies of {line} have {lengths} digits"
+    read = {unmarshal(BACKS[word], interfaces, told.encode()) for told in requests.values() if not told.startswith("!") for word in OVER_CDR}
+    if len(read) > 1:
+        return f"{line} is read as {read}"
+    name = json.loads(line)["op"] if not answers["cdr-be"].startswith("!") else ""
+    read = {unreply(REPLIES[word], interfaces, f"{name} {told}".encode()) for told in answers.values() if name for word in OVER_CDR}
+    return f"{line} is read as {read}" if len(read) > 1 else ""
+
+
 def unanswered(name, table, interfaces, octets):
     """What is wrong with what is served of a message, or nothing."""
     told = answered(SERVERS[name], interfaces, table, octets)
@@ -199,6 +214,9 @@ def checked(rng, interfaces):
         yield untaken(back, interfaces, refused_lines(rng, back, interfaces))
         table = table_of(back, interfaces, given_lines(rng, back, interfaces))
         requests = list(request_lines(rng, name, interfaces, LINES))
+        if name in OVER_CDR:
+            for line in [*requests, *reply_lines(rng, back, interfaces, LINES)]:
+                yield unlike(interfaces, line)
         for line in [*call_lines(rng, name, interfaces, requests), *served_lines(rng, name, interfaces, requests)]:
             if len(line) % 2 == 0:
                 yield unanswered(name, table, interfaces, bytes.fromhex(line.decode()))
