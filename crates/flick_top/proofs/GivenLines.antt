@@ -144,7 +144,7 @@ lines-failed c before now after s t given e h more knows failed over within =
           let same = ended-lines (fresh longest_line most_input) t got ls longest_line most_input refl passed none unended in (
             got,
             consumed,
-            (took-within longest_line most_input before after t ls both few).2,
+            omega (arith, passed.count, passed.most, few),
             ap (λ (k : Cutting). k.ended got) h.cut ∙ ap (map items.Line) same ∙ sym is,
           );
       more = λ which. took-more longest_line most_input before after t ls both (over which);

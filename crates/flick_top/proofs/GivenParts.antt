@@ -185,14 +185,13 @@ pub parts-failed : (c : Cutting) (before now after : Input) (r t : Reader) (give
     → AreMessages c r before now given → Stops now after r t e → HasFailed c before after given e
 parts-failed c before now after r t given errors.Failed h (advances, within, none) =
     let s = stood c before now after r t given h advances in
-    let (fed, consumed, few) = within_so c t before after given s within in
     record {
       begins = begins_so c t before after given s;
       taken = (s.fed, s.reached.consumed);
       failed = λ which. (
         s.fed,
         s.reached.consumed,
-        few,
+        omega (arith, s.reached.count, s.reached.most, within),
         ap (λ (k : Cutting). k.ended s.fed) s.reached.cut
             ∙ ap messages_as (messages-ended t.back s.fed t.kept s.ms s.reached.given none) ∙ sym s.is,
       );
@@ -215,8 +214,28 @@ parts-failed c before now after r t given errors.NoMemory h (got, taken) =
       more = λ which. absurd (cc which);
     }
 
--- ---- after the last part
+-- ---- whether or not the last part was given
 
-pub parts-over : (c : Cutting) (before now after : Input) (given : List Item) → after ≡ now → HasEnded c before now given
+pub part-next : (c : Cutting) (before now after : Input) (r t : Reader) (given : List Item) (o : Option Part) (p : Part) → o ≡ Some p
+    → (r.over ≡ false → Gives now after r t o) → (r.over ≡ true → o ≡ None) → AreParts r.over c r before now given
+    → AreParts t.over c t before after (given ++ items.Part p ∷ [])
+part-next c before now after r t given o p is gives over = go r.over refl where
+  go : (b : Bool) → r.over ≡ b → AreParts b c r before now given → AreParts t.over c t before after (given ++ items.Part p ∷ [])
+  go true e h = absurd (cc (is, over e))
+  go false e h = part-given c before now after r t given p h (subst (λ (x : Option Part). Gives now after r t x) is (gives e))
+
+pub part-none : (c : Cutting) (before now after : Input) (r t : Reader) (given : List Item) (o : Option Part) → o ≡ None
+    → (r.over ≡ false → Gives now after r t o) → (r.over ≡ true → after ≡ now) → AreParts r.over c r before now given
     → HasEnded c before after given
-parts-over c before now after given same h = subst (λ (o : Input). HasEnded c before o given) (sym same) h
+part-none c before now after r t given o is gives over = go r.over refl where
+  go : (b : Bool) → r.over ≡ b → AreParts b c r before now given → HasEnded c before after given
+  go true e h = subst (λ (x : Input). HasEnded c before x given) (sym (over e)) h
+  go false e h = parts-ended c before now after r t given h (subst (λ (x : Option Part). Gives now after r t x) is (gives e))
+
+pub part-stopped : (c : Cutting) (before now after : Input) (r t : Reader) (given : List Item) (e : LineErr)
+    → (r.over ≡ false → Stops now after r t e) → (r.over ≡ true → ⊥) → AreParts r.over c r before now given
+    → HasFailed c before after given e
+part-stopped c before now after r t given e stops over = go r.over refl where
+  go : (b : Bool) → r.over ≡ b → AreParts b c r before now given → HasFailed c before after given e
+  go true f h = absurd (over f)
+  go false f h = parts-failed c before now after r t given e h (stops f)

@@ -115,6 +115,11 @@ Answering = Item → Answer
 abbrev pub IsAnswering : Job → Answering → Type 0
 IsAnswering job f = (item : Item) → IsAnswer job item (f item)
 
+-- the input of a job is a raw stream
+abbrev pub reads_stream : Job → Bool
+reads_stream (Unpipe e) = true
+reads_stream _ = false
+
 -- how the input of a job is cut into items
 abbrev pub cutting_of : Job → Cutting
 cutting_of (Unpipe e) = by_frames e.binding.back

@@ -1,5 +1,5 @@
 -- Tasks: what is left to do of a command once its files are read, and what is then written and sent.
-use Rattle.std.specs.Prelude.{ℕ, List, [], ◌++◌, Bool, true, if◌then◌else◌, Option, Some, None}
+use Rattle.std.specs.Prelude.{◌≡◌, ℕ, List, [], ◌++◌, Bool, true, if◌then◌else◌, Option, Some, None}
 use Rattle.stub_codes.specs.Stubs.{Coded}
 use Rattle.flick_lines.specs.Sent.{Sending}
 use Rattle.flick_top.specs.declared.job.Job.{Job}
@@ -10,7 +10,7 @@ use Rattle.flick_top.specs.declared.status.Status.TheVariants.{Done, Usage}
 use Rattle.flick_top.specs.declared.prepared.Prepared.{Prepared}
 pub use Rattle.flick_top.specs.Answer.{engine_in}
 use Rattle.flick_top.specs.Answer.{Answering, answers, refuses, sent_for, cutting_of, is_exact}
-use Rattle.flick_top.specs.Items.{Item}
+use Rattle.flick_top.specs.declared.items.Item.{Item}
 use Rattle.flick_top.specs.Saying.{said, ending}
 use Rattle.flick_top.specs.Status.{number_of, refused}
 

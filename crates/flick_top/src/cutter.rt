@@ -30,13 +30,10 @@ impl Cutter {
     pub fn new(alloc: Global, job: &Job) -> Cutter
         ensures { (left : Input) → IsGiven (cutting_of job.now) result left left [] }
     {
-        match job {
-            Job::Unpipe(engine) => {
-                Cutter::Messages(Messages::new(alloc, engine.bound().back(), MOST_INPUT))
-            }
-            Job::Over(_, _) | Job::Pipe(_) | Job::Serve(_) => {
-                Cutter::Lines(Lines::new(alloc, LONGEST_LINE, MOST_INPUT))
-            }
+        if job.reads_stream() {
+            Cutter::Messages(Messages::new(alloc, job.engine().bound().back(), MOST_INPUT))
+        } else {
+            Cutter::Lines(Lines::new(alloc, LONGEST_LINE, MOST_INPUT))
         }
     }
 

@@ -4,7 +4,7 @@ ghost use Rattle.std.specs.Prelude.{◌≡◌, true, codes, IfOk, OnOk};
 ghost use Rattle.raw_buf.specs.Buf.{NoneFell};
 ghost use Rattle.stub_codes.specs.Stubs.{IsCoded};
 ghost use Rattle.flick_lines.specs.Sent.{SendsTo};
-ghost use Rattle.flick_top.specs.Answer.{written_of, Answering, IsAnswering, IsVerbAnswer, IsWrittenFor, SendsFor};
+ghost use Rattle.flick_top.specs.Answer.{reads_stream, written_of, Answering, IsAnswering, IsVerbAnswer, IsWrittenFor, SendsFor};
 ghost use Rattle.flick_top.specs.Task.{engine_in};
 
 use crate::answered::{Answered, as_answer, with_end};
@@ -82,14 +82,26 @@ impl Job {
         }
     }
 
+    /// Whether the input is a raw stream.
+    pub fn reads_stream(&self) -> bool
+        ensures { result ≡ reads_stream self.now }
+    {
+        match self {
+            Job::Over(_, _) => false,
+            Job::Pipe(_) => false,
+            Job::Unpipe(_) => true,
+            Job::Serve(_) => false,
+        }
+    }
+
     /// Each item has an answer. It does nothing.
     pub fn items_are_answered(&self)
         ensures { (f : Answering) × IsAnswering self.now f }
     {
         match self {
-            Job::Over(_, engine) | Job::Pipe(engine) | Job::Unpipe(engine) => {
-                flick_lines::lines_are_answered(engine)
-            }
+            Job::Over(_, engine) => flick_lines::lines_are_answered(engine),
+            Job::Pipe(engine) => flick_lines::lines_are_answered(engine),
+            Job::Unpipe(engine) => flick_lines::lines_are_answered(engine),
             Job::Serve(server) => {
                 flick_lines::lines_are_answered(server.engine());
                 server.lines_are_answered()
