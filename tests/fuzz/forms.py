@@ -13,11 +13,19 @@ LONGEST_LINE = 8_388_608
 
 NUMBER = r"(0|[1-9][0-9]*)"
 GIOP = ("Short", "Magic", "Version", "Order", "Type", "Size", "Item", "Text")
-HEADS = {"xdr": ("Short", "Type", "Version", "Cred", "Pad"), "cdr-be": GIOP, "cdr-le": GIOP, "mach": ("Short", "Complex", "Size")}
-REPLY_HEADS = {"xdr": ("Short", "Type", "Item", "Cred", "Pad"), "cdr-be": GIOP, "cdr-le": GIOP, "mach": ("Short", "Complex", "Size", "Type", "Item")}
-BODIES = {"xdr": ["BadPad"], "mach": ["BadItem"]}
-KEYS = {"xdr": ["xid"], "cdr-be": ["id"], "cdr-le": ["id"], "mach": ["local", "remote"]}
-REPLY_KEYS = {"xdr": ["xid"], "cdr-be": ["id"], "cdr-le": ["id"], "mach": ["remote"]}
+OVER_CDR = ("cdr-be", "cdr-le", "cdr12-be", "cdr12-le")
+
+
+def over(xdr, cdr, mach):
+    """What each back end has."""
+    return {"xdr": xdr, **dict.fromkeys(OVER_CDR, cdr), "mach": mach}
+
+
+HEADS = over(("Short", "Type", "Version", "Cred", "Pad"), (*GIOP, "Target"), ("Short", "Complex", "Size"))
+REPLY_HEADS = over(("Short", "Type", "Item", "Cred", "Pad"), GIOP, ("Short", "Complex", "Size", "Type", "Item"))
+BODIES = over(["BadPad"], [], ["BadItem"])
+KEYS = over(["xid"], ["id"], ["local", "remote"])
+REPLY_KEYS = over(["xid"], ["id"], ["remote"])
 CAME = (["outs", "result"], ["members", "raise"], ["refused"])  # what a reply record says, beside its operation and number
 NAMES = {"onc": ("Unknown", "Twice", "NotType", "NotConst", "Range", "Label", "Limit", "OutOfScope"),
          "mig": ("Unknown", "Twice", "Range", "Limit", "OutOfScope", "Oneway", "Port"),
@@ -32,7 +40,7 @@ def saying_of(front):
 
 def no_record_of(back, heads, others):
     """The lines by which `unmarshal` or `unreply` refuses, over a back end."""
-    kinds = "|".join(["Short", "OverBound", "BadValue", "BadText", *BODIES.get(back, [])])
+    kinds = "|".join(["Short", "OverBound", "BadValue", "BadText", *BODIES[back]])
     return re.compile(rf"! (long|hex|{others}|head (?:{'|'.join(heads[back])})|body (?:{kinds}) {NUMBER}|trailing {NUMBER})")
 
 
@@ -47,6 +55,9 @@ CALL = {
     # The letters, the version, the order and the type; the size; no contexts, the id, and whether a reply is wanted.
     "cdr-be": re.compile(r"47494f5001000000([0-9a-f]{8})0{8}[0-9a-f]{8}0[01]([0-9a-f]{2})*"),
     "cdr-le": re.compile(r"47494f5001000100([0-9a-f]{8})0{8}[0-9a-f]{8}0[01]([0-9a-f]{2})*"),
+    # In 1.2 the id, the flags, and the key as the target.
+    "cdr12-be": re.compile(r"47494f5001020000([0-9a-f]{8})[0-9a-f]{8}0[03]0{10}([0-9a-f]{2})*"),
+    "cdr12-le": re.compile(r"47494f5001020100([0-9a-f]{8})[0-9a-f]{8}0[03]0{10}([0-9a-f]{2})*"),
     # What becomes of the ports' rights, the size, the two ports, 0 and the id, and words. Without a reply there is no local port.
     "mach": re.compile(r"13(?:15|00(?=0000.{16}0{8}))0000([0-9a-f]{8})[0-9a-f]{16}0{8}[0-9a-f]{8}([0-9a-f]{8})*"),
 }
@@ -56,16 +67,32 @@ REPLY = {
     # The letters, the version, the order and the type; the size; no contexts, the id, and whether an exception is raised.
     "cdr-be": re.compile(r"47494f5001000001([0-9a-f]{8})0{8}[0-9a-f]{8}0000000[01]([0-9a-f]{2})*"),
     "cdr-le": re.compile(r"47494f5001000101([0-9a-f]{8})0{8}[0-9a-f]{8}0[01]000000([0-9a-f]{2})*"),
+    # In 1.2 no contexts come last.
+    "cdr12-be": re.compile(r"47494f5001020001([0-9a-f]{8})[0-9a-f]{8}0000000[01]0{8}([0-9a-f]{2})*"),
+    "cdr12-le": re.compile(r"47494f5001020101([0-9a-f]{8})[0-9a-f]{8}0[01]0{14}([0-9a-f]{2})*"),
     # What becomes of the port's right, the size, the remote port, no local one, 0 and the id, the return code 0, and words.
     "mach": re.compile(r"12000000([0-9a-f]{8})[0-9a-f]{8}0{16}[0-9a-f]{8}0220011000000000([0-9a-f]{8})*"),
 }
+
+
+def served_of(order, version):
+    """What a server sends over CDR: a Reply that answers, raises or refuses, in either version; one that asks for another target; a
+    LocateReply in either version; a MessageError in the word's own."""
+    number = (lambda digit: f"0000000{digit}") if order == "0" else (lambda digit: f"0{digit}000000")
+    reply, octets = rf"0{order}01([0-9a-f]{{8}})", "(?:[0-9a-f]{2})*"
+    kinds = [rf"0{reply}0{{8}}[0-9a-f]{{8}}{number('[012]')}{octets}", rf"2{reply}[0-9a-f]{{8}}{number('[012]')}0{{8}}{octets}",
+             rf"2{reply}[0-9a-f]{{8}}{number('5')}0{{12}}", rf"[02]0{order}04{number('8')}[0-9a-f]{{8}}{number('[01]')}", rf"{version}0{order}060{{8}}"]
+    return re.compile(rf"47494f50010(?:{'|'.join(kinds)})")
+
+
 # What a server sends: for each kind of message the digits that it may have, with its size, and which of them are those of the request.
 SERVED = {
     # The transaction; accepted, with an empty verifier and a state; or denied, as only version 2 is known.
     "xdr": re.compile(r"[0-9a-f]{8}00000001(?:0{24}(?:0{8}(?:[0-9a-f]{8})*|0000000[1345]|00000002[0-9a-f]{16})|00000001000000000000000200000002)"),
-    # A Reply that answers, raises or refuses, a LocateReply, or a MessageError.
-    "cdr-be": re.compile(r"47494f50010000(?:01([0-9a-f]{8})0{8}[0-9a-f]{8}0000000[012](?:[0-9a-f]{2})*|0400000008[0-9a-f]{8}0000000[01]|0600000000)"),
-    "cdr-le": re.compile(r"47494f50010001(?:01([0-9a-f]{8})0{8}[0-9a-f]{8}0[012]000000(?:[0-9a-f]{2})*|0408000000[0-9a-f]{8}0[01]000000|0600000000)"),
+    "cdr-be": served_of("0", 0),
+    "cdr-le": served_of("1", 0),
+    "cdr12-be": served_of("0", 2),
+    "cdr12-le": served_of("1", 2),
     # The return code 0 and words, or one of the two that refuse.
     "mach": re.compile(r"12000000([0-9a-f]{8})[0-9a-f]{8}0{16}[0-9a-f]{8}02200110(?:0{8}(?:[0-9a-f]{8})*|d[01]feffff)"),
 }
@@ -137,8 +164,9 @@ def wrong_fault(back, message, form):
     holds = {
         "hex": False,
         "head Type": message[7:8] != b"\0" if giop else message[4:8] != bytes(4),
-        "head Version": message[4:6] != b"\1\0" if giop else message[8:12] != b"\0\0\0\2",
+        "head Version": message[4:6] not in (b"\1\0", b"\1\2") if giop else message[8:12] != b"\0\0\0\2",
         "head Magic": message[:4] != b"GIOP",
+        "head Target": message[4:6] == b"\1\2" and message[20:22] in (b"\0\1", b"\0\2", b"\1\0", b"\2\0"),
         "head Complex": message[3:4] >= b"\x80",
         "body Short": at <= len(message) + 7 * giop and len(message) < at + (12 if back == "mach" else 8),
         "body OverBound": there,
@@ -154,8 +182,10 @@ def wrong_fault(back, message, form):
 def is_message(forms, back, answer):
     """Whether an answer is a message as `marshal`, `reply` or `serve` writes it. Where it states its size, that is right."""
     form = forms[back].fullmatch(answer)
-    uncounted, order = {"mach": (0, "little"), "cdr-le": (12, "little"), "cdr-be": (12, "big")}.get(back, (0, None))
-    return form is not None and (order is None or form[1] is None or int.from_bytes(bytes.fromhex(form[1]), order) == len(answer) // 2 - uncounted)
+    if form is None or back == "xdr":
+        return form is not None
+    size, order = next((size for size in form.groups() if size), None), "big" if back.endswith("-be") else "little"
+    return size is None or int.from_bytes(bytes.fromhex(size), order) == len(answer) // 2 - (0 if back == "mach" else 12)
 
 
 def tree_of(answer, keys, others):

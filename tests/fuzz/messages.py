@@ -1,7 +1,7 @@
 """Light edits of messages over each back end, by a seeded generator."""
 from typing import NamedTuple
 
-from giop import read_call, read_reply
+from giop import REQUEST, Reading, Stop, read_call, read_reply
 
 COUNTS = [0, 1, 2, 3, 4, 5, 7, 8, 16, 17, 127, 128, 255, 256, 400, 401, 32767, 32768, 65535, 65536, 2 ** 24, 2 ** 30, 2 ** 31 - 1, 2 ** 31, 2 ** 31 + 1, 2 ** 32 - 4,
           2 ** 32 - 2, 2 ** 32 - 1]
@@ -10,9 +10,10 @@ MACH_BODY = 24
 
 
 class Shape(NamedTuple):
-    """Of the messages of a back end: where the arguments begin, the order of numbers, where the size stands and what of
-    the message it does not count, and edits that only they have."""
+    """Of the messages of a back end: where the arguments begin, where the head ends before what aligns them, the order of
+    numbers, where the size stands and what of the message it does not count, and edits that only they have."""
     body: int
+    ends: int
     order: str
     size: int | None
     uncounted: int
@@ -22,11 +23,12 @@ class Shape(NamedTuple):
 def shape_of(back, message):
     """The shape of a right message."""
     if back == "xdr":
-        return Shape(40, "big", None, 0, [edit_auth])
+        return Shape(40, 40, "big", None, 0, [edit_auth])
     if back == "mach":
-        return Shape(MACH_BODY, "little", 4, 0, [edit_descriptor, edit_descriptor, *[edit_data] * 4])
+        return Shape(MACH_BODY, MACH_BODY, "little", 4, 0, [edit_descriptor, edit_descriptor, *[edit_data] * 4])
     said = read_call(message)
-    return Shape(said["used"], said["order"], 8, 12, [edit_contexts, edit_principal])
+    own = [edit_contexts, edit_principal] if said["version"] == 0 else [edit_contexts, edit_flags, edit_target, edit_gap]
+    return Shape(said["used"], said.get("ends", said["used"]), said["order"], 8, 12, [*own, edit_version])
 
 
 def reply_shape(raises):
@@ -36,11 +38,13 @@ def reply_shape(raises):
     """
     def shape_of(back, message):
         if back == "xdr":
-            return Shape(28 if raises else 24, "big", None, 0, [])
+            body = 28 if raises else 24
+            return Shape(body, body, "big", None, 0, [])
         if back == "mach":
-            return Shape(MACH_BODY + (16 if raises else 8), "little", 4, 0, [edit_descriptor, *[edit_data] * 2])
+            body = MACH_BODY + (16 if raises else 8)
+            return Shape(body, body, "little", 4, 0, [edit_descriptor, *[edit_data] * 2])
         said = read_reply(message)
-        return Shape(said["used"], said["order"], 8, 12, [edit_contexts])
+        return Shape(said["used"], said["used"], said["order"], 8, 12, [edit_contexts, edit_version])
     return shape_of
 
 
@@ -127,13 +131,53 @@ def edit_contexts(rng, message, shape):
     for _ in range(count := rng.choice([1, 1, 2, 3])):
         length = rng.choice([0, 8, 8, 16, 24, 1, 3, 4])
         contexts += rng.choice(COUNTS).to_bytes(4, shape.order) + length.to_bytes(4, shape.order) + octets(rng, length + -length % 4)
-    return with_word(message, 12, count + rng.choice([0] * 8 + [1, -1, 2 ** 31]), shape)[:16] + contexts + message[16:]
+    at = place_of_contexts(message, shape)
+    return with_word(message, at, count + rng.choice([0] * 8 + [1, -1, 2 ** 31]), shape)[:at + 4] + contexts + message[at + 4:]
+
+
+def place_of_contexts(message, shape):
+    """Where the number of contexts stands, in a message that has none: first, or in 1.2 behind the status or the operation's name."""
+    if message[5:6] != b"\2":
+        return 12
+    if message[7:8] == b"\1":
+        return 20
+    fields = Reading(message, 24, shape.order)
+    try:
+        fields.sequence(), fields.sequence()
+    except Stop:  # edited already
+        return 12
+    return fields.at + -fields.at % 4
 
 
 def edit_principal(rng, message, shape):
     """A GIOP message with a principal; most of them leave the arguments aligned as they were."""
     length = rng.choice([8, 8, 16, 24, 1, 2, 4, 5])
     return with_word(message, shape.body - 4, length, shape)[:shape.body] + octets(rng, length) + message[shape.body:]
+
+
+def edit_version(rng, message, _):
+    """A GIOP message that states another version."""
+    return message[:5] + bytes([rng.choice([0, 0, 2, 2, 1, 3])]) + message[6:]
+
+
+def edit_flags(rng, message, _):
+    """A GIOP request of 1.2 with other flags, or other octets behind them."""
+    return message[:16] + bytes([rng.choice([0, 1, 2, 3, 254, 255])]) + octets(rng, 3) + message[20:]
+
+
+def edit_target(rng, message, shape):
+    """A GIOP request of 1.2 with another target, most of them alone in the message."""
+    target = rng.choice([0, 1, 2, 3, 256, 65535]).to_bytes(2, shape.order)
+    return message[:20] + target + (message[22:] if rng.random() < 0.5 else octets(rng, rng.randint(0, 9)))
+
+
+def edit_gap(rng, message, shape):
+    """A GIOP request of 1.2 in which what aligns the body is another, or some of it is not there, with or without the body."""
+    try:
+        ends = read_call(message)["ends"]
+    except (Stop, KeyError):  # edited already
+        return edit_bits(rng, message, shape)
+    return message[:ends] + octets(rng, rng.choice([shape.body - ends, rng.randint(0, 9)])) + rng.choice([message[shape.body:], message[shape.body:], b""])
 
 
 def items_of(message):
@@ -184,7 +228,13 @@ def cut(rng, message, shape):
     short = sized(message[:at], shape)
     if shape.size is not None and at >= max(12, shape.body if shape.uncounted == 0 else 12) and rng.random() < 0.3:
         return message[:at], r"! head Size"
-    return short, r"! head Short" if at < shape.body else r"! body Short [0-9]+"
+    return short, r"! head Short" if at < shape.ends else r"! body Short [0-9]+"
+
+
+def end_of(back, message, shape):
+    """Where octets behind a message are too many: a request of 1.2 without arguments may be filled up."""
+    may_be_filled = back.startswith("cdr") and message[5] == 2 and message[7] == REQUEST and shape.ends == len(message)
+    return len(message) + (-len(message) % 8 if may_be_filled else 0)
 
 
 def edited_message(rng, back, message, others, shape_of=shape_of):
@@ -199,7 +249,8 @@ def edited_message(rng, back, message, others, shape_of=shape_of):
         more = message + bytes(rng.choice([0, 0, 1, 255]) for _ in range(rng.randint(1, 9)))
         if shape.size is not None and rng.random() < 0.3:
             return more, r"! head Size"
-        return sized(more, shape), rf"! trailing {len(message)}"
+        whole = end_of(back, message, shape)
+        return sized(more, shape), rf"! trailing {whole}" if len(more) > whole else r"\{.*\}"
     if kind == "other body":
         other = rng.choice(others)
         return sized(message[:shape.body] + other[shape_of(back, other).body:], shape), None

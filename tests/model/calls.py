@@ -227,7 +227,7 @@ def unmarshal(back, interfaces, line):
 
 
 COMMANDS = {"marshal": marshal, "unmarshal": unmarshal}
-BACKS = {"xdr": Onc(), "cdr-be": Cdr("big"), "cdr-le": Cdr("little"), "mach": Mach()}
+BACKS = {"xdr": Onc(), "cdr-be": Cdr("big"), "cdr-le": Cdr("little"), "cdr12-be": Cdr("big", 2), "cdr12-le": Cdr("little", 2), "mach": Mach()}
 
 
 def lines_of(octets):

@@ -1,8 +1,8 @@
-"""Values over CDR and requests of GIOP 1.0 (OMG CORBA, chapter GIOP), over the operations of an interface file.
+"""Values over CDR and requests of GIOP 1.0 and 1.2 (OMG CORBA, chapter GIOP), over the operations of an interface file.
 
 As all of the model it is written from the standard and docs/, with nothing of the crates in it.
 """
-from giop import Reading, Stop, header, message, request_fields, REQUEST
+from giop import REQUEST, Reading, Stop, before_body, message, read_call, request_fields
 from packing import packed
 from values import Array, Bool, Fault, Number, Opaque, Pointer, String, Struct, Union
 
@@ -132,32 +132,38 @@ def value_in(reading, ty):
     return None
 
 
+def with_values(order, fields, types, values, version):
+    """Fields with values behind them, and before these what aligns a body of that version."""
+    writing = Writing(before_body(fields, version), order)
+    begin = len(writing.fields)
+    for ty, value in zip(types, values):
+        writing.value(ty, value)
+    return writing.fields if len(writing.fields) > begin else fields
+
+
 class Cdr:
-    """Messages of GIOP whose octets are sent in one order and received in either."""
+    """Messages of GIOP whose octets are sent in one order and version, and received in each."""
 
     keys = ("id",)
 
-    def __init__(self, order):
-        self.order = order
+    def __init__(self, order, version=0):
+        self.order, self.version = order, version
 
     def operations(self, interface):
         return interface.own
 
     def message(self, interface, operation, numbers, values):
         """The request of an operation, which wants a reply unless it is oneway, as none of ONC is."""
-        writing = Writing(request_fields(self.order, numbers["id"], not operation.oneway, interface.name, operation[0]), self.order)
-        for ty, value in zip(operation[2], values):
-            writing.value(ty, value)
-        return message(self.order, REQUEST, writing.fields)
+        fields = request_fields(self.order, numbers["id"], not operation.oneway, interface.name, operation[0], self.version)
+        return message(self.order, REQUEST, with_values(self.order, fields, operation[2], values, self.version), self.version)
 
     def head(self, octets):
         """The id, a test of interfaces and one of their operations, and a reader of values."""
-        order, _, fields = header(octets, (REQUEST,))
-        fields.contexts()
-        id, _, key, name = fields.long(), fields.flag(), fields.sequence(), fields.string()
-        fields.sequence()
-        reading = Reading(octets, fields.at, order)
-        return {"id": id}, lambda i: i.name.encode() == key, lambda _, op: op[0].encode() == name, reading
+        said = read_call(octets, (REQUEST,))
+        if said["ask"] == "addressing":
+            raise Stop("Target", said["used"] - 2)
+        reading = Reading(octets, said["used"], said["order"])
+        return {"id": said["id"]}, lambda i: i.name.encode() == said["key"], lambda _, op: op[0].encode() == said["name"], reading
 
     def read(self, reading, ty):
         return value_in(reading, ty)

@@ -13,14 +13,14 @@ import mach
 from calls import BACKS, marshal, tree_of
 from corba_nodes import Table, is_row, kind_of
 from making import made
-from nodes import is_exact, numbers_of, regions, sent
+from nodes import blank, is_exact, numbers_of, regions, sent
 from stub_chunks import Phase, chunked
 from stub_runs import Sending, Undefined, received_by, sent_by
 from stub_takes import STARTS, joined
 from stub_texts import NoStub, stubs_of, text_of
 from values import Array, Fault, Number, Opaque, Pointer, Reader, String, Struct, Union
 
-ENCODINGS = {"xdr": "xdr", "cdr-be": "cdr_big", "cdr-le": "cdr_little", "mach": "mach"}
+ENCODINGS = {"xdr": "xdr", "cdr-be": "cdr_big", "cdr-le": "cdr_little", "cdr12-be": "cdr_big", "cdr12-le": "cdr_little", "mach": "mach"}
 START = Phase(8, 0)
 HEAD = {"id": 0, "remote": 0, "local": 0}
 MOST_TESTS = 24  # of each entry of a value that is received
@@ -40,13 +40,20 @@ def need(holds, why):
 
 # ---- requests as values of nodes
 
+def lead_of(back, interface, operation, nodes, id):
+    """How many octets stand before the arguments of a request, if there are any. In GIOP 1.2 these begin at a multiple of 8."""
+    head = len(BACKS[back].message(interface, operation, dict.fromkeys(BACKS[back].keys, 0), []))
+    is_empty = not sent(ENCODINGS[back], nodes, id, blank(nodes, id))
+    return head if is_empty or getattr(BACKS[back], "version", 0) == 0 else head + -head % 8
+
+
 def requests_of(back, interfaces):
     """Each operation over a back end, in order."""
     table, found = Table(), []
     for interface in interfaces:
         for operation in BACKS[back].operations(interface):
             id = table.id(Struct([("", ty) for ty in operation[2]]))
-            lead = len(BACKS[back].message(interface, operation, dict.fromkeys(BACKS[back].keys, 0), []))
+            lead = lead_of(back, interface, operation, table.nodes, id)
             found.append(Request(interface, operation, f"{interface.name}.{operation[0]}", table.nodes, id, lead))
     return found
 

@@ -1,12 +1,14 @@
-"""Heads of GIOP messages, version 1.0 (OMG CORBA, chapter GIOP), in either order, and values read over CDR.
+"""Heads of GIOP messages, versions 1.0 and 1.2 (OMG CORBA, chapter GIOP), in either order, and values read over CDR.
 
-As all of the model it is written from the standard and docs/, with nothing of the crates in it.
+A version is told by its minor number, 0 or 2. As all of the model it is written from the standard and docs/, with nothing of the crates in it.
 """
 from nodes import WIDTHS, arm_of, count_of, greatest, is_exact, least, sent, tag_kind
 from packing import unpacked
 
 REQUEST, REPLY, LOCATE_REQUEST, LOCATE_REPLY, MESSAGE_ERROR = 0, 1, 3, 4, 6
-USER, SYSTEM = 1, 2
+USER, SYSTEM, NEEDS_ADDRESSING = 1, 2, 5
+VERSIONS = {b"\1\0": 0, b"\1\2": 2}
+KEY, PROFILE, REFERENCE = 0, 1, 2  # what the target of a request of 1.2 is
 ORDERS = ("big", "little")
 ENCODINGS = {"cdr_big": "big", "cdr_little": "little"}
 
@@ -72,6 +74,17 @@ class Reading:
             raise Stop("Item", place)
         return n == 1
 
+    def target(self):
+        """What tells the object that is called."""
+        place, n = self.number(2, signed=True)
+        if n not in (KEY, PROFILE, REFERENCE):
+            raise Stop("Item", place)
+        return n
+
+    def end(self):
+        """Goes over the octets that align a body of 1.2, as far as they are there."""
+        self.at = min(self.at + -self.at % 8, len(self.octets))
+
     def sequence(self):
         return self.block(self.long())
 
@@ -91,12 +104,12 @@ class Reading:
 # ---- heads that are read
 
 def header(message, expected):
-    """The order and the type of a message, and what follows its header."""
+    """The version, the order and the type of a message, and what follows its header."""
     if len(message) < 12:
         raise Stop("Short", 0)
     if message[:4] != b"GIOP":
         raise Stop("Magic", 0)
-    if message[4:6] != b"\1\0":
+    if message[4:6] not in VERSIONS:
         raise Stop("Version", 4)
     if message[6] > 1:
         raise Stop("Order", 6)
@@ -105,51 +118,82 @@ def header(message, expected):
     order = ORDERS[message[6]]
     if int.from_bytes(message[8:12], order) != len(message) - 12:
         raise Stop("Size", 8)
-    return order, message[7], Reading(message, 12, order)
+    return VERSIONS[message[4:6]], order, message[7], Reading(message, 12, order)
 
 
-def read_call(message):
-    """What a Request or a LocateRequest says."""
-    order, kind, fields = header(message, (REQUEST, LOCATE_REQUEST))
-    if kind == LOCATE_REQUEST:
-        id, key = fields.long(), fields.sequence()
-        if fields.at != len(message):
-            raise Stop("Size", fields.at)
-        return {"ask": "locate", "id": id, "key": key}
+def read_request(fields):
+    """The fields of a Request of 1.0."""
     fields.contexts()
-    id, wants, key, name = fields.long(), fields.flag(), fields.sequence(), fields.string()
+    said = {"ask": "request", "id": fields.long(), "wants": fields.flag(), "key": fields.sequence(), "name": fields.string()}
     fields.sequence()
-    return {"ask": "request", "id": id, "wants": wants, "order": order, "key": key, "name": name, "used": fields.at}
+    return said
+
+
+def read_request_of_2(fields):
+    """The fields of a Request of 1.2, and where they end before what aligns a body. What follows a target that is no key is not looked at."""
+    said = {"id": fields.long(), "wants": fields.block(1)[0] & 1 == 1}
+    fields.block(3)
+    if fields.target() != KEY:
+        return {"ask": "addressing", **said}
+    said.update(ask="request", key=fields.sequence(), name=fields.string())
+    fields.contexts()
+    said["ends"] = fields.at
+    fields.end()
+    return said
+
+
+def read_locate(fields, version):
+    """The fields of a LocateRequest."""
+    id = fields.long()
+    if version == 2 and fields.target() != KEY:
+        raise Stop("Target", fields.at - 2)
+    key = fields.sequence()
+    if fields.at != len(fields.octets):
+        raise Stop("Size", fields.at)
+    return {"ask": "locate", "id": id, "key": key}
+
+
+def read_call(message, expected=(REQUEST, LOCATE_REQUEST)):
+    """What a Request or a LocateRequest says."""
+    version, order, kind, fields = header(message, expected)
+    if kind == LOCATE_REQUEST:
+        said = read_locate(fields, version)
+    else:
+        said = (read_request_of_2 if version == 2 else read_request)(fields)
+    return {**said, "version": version, "order": order, "used": fields.at}
 
 
 def read_reply(message):
     """What a Reply says: an answer, a user exception or a system exception."""
-    order, _, fields = header(message, (REPLY,))
-    fields.contexts()
-    id, status = fields.long(), fields.long(SYSTEM)
-    told = {"id": id, "order": order, "status": status}
-    if status in (USER, SYSTEM):
+    version, order, _, fields = header(message, (REPLY,))
+    if version == 0:
+        fields.contexts()
+    told = {"version": version, "order": order, "id": fields.long(), "status": fields.long(SYSTEM)}
+    if version == 2:
+        fields.contexts()
+        fields.end()
+    if told["status"] in (USER, SYSTEM):
         told["exception"] = fields.string()
-    if status == SYSTEM:
+    if told["status"] == SYSTEM:
         told["minor"], told["completion"] = fields.long(), fields.long(2)
     return {**told, "used": fields.at}
 
 
 def told(read, message):
-    """The answer to a row of heads."""
+    """The answer to a row of heads. Behind the first word of what a message of 1.2 says stands its version."""
     try:
         said = read(message)
     except Stop as stop:
         return stop.kind
-    order = {"big": "Big", "little": "Little"}.get(said.get("order"))
-    if said.get("ask") == "locate":
-        return f"locate {said['id']} {said['key'].hex() or '-'}"
-    if said.get("ask") == "request":
-        wants = "wants" if said["wants"] else "oneway"
-        return f"request {said['id']} {wants} {order} {said['key'].hex() or '-'} {said['name'].hex() or '-'} {said['used']}"
-    exception = f" {said['exception'].hex() or '-'}" if "exception" in said else ""
-    numbers = f" {said['minor']} {said['completion']}" if "minor" in said else ""
-    return f"{('answer', 'user', 'system')[said['status']]} {said['id']} {order}{exception}{numbers} {said['used']}"
+    order = {"big": "Big", "little": "Little"}[said["order"]]
+    ask = said.get("ask") or ("answer", "user", "system")[said["status"]]
+    words = [f"{ask}{' 1.2' * (said['version'] == 2)} {said['id']}"]
+    if ask in ("request", "addressing"):
+        words.append("wants" if said["wants"] else "oneway")
+    words += [order] * (ask != "locate")
+    words += [said[octets].hex() or "-" for octets in ("key", "name", "exception") if octets in said]
+    words += [str(said[number]) for number in ("minor", "completion") if number in said]
+    return " ".join([*words, str(said["used"])] if ask not in ("locate", "addressing") else words)
 
 
 # ---- heads that are sent
@@ -158,9 +202,9 @@ def long(order, n):
     return n.to_bytes(4, order)
 
 
-def message(order, kind, fields):
+def message(order, kind, fields, version=0):
     """A header, and the octets of the fields."""
-    return b"GIOP\1\0" + bytes([ORDERS.index(order), kind]) + long(order, len(fields)) + fields
+    return b"GIOP\1" + bytes([version, ORDERS.index(order), kind]) + long(order, len(fields)) + fields
 
 
 def aligned(fields, width=4):
@@ -168,37 +212,65 @@ def aligned(fields, width=4):
     return fields + bytes(-(12 + len(fields)) % width)
 
 
+def before_body(fields, version):
+    """The fields with what aligns a body of that version, if there is one."""
+    return aligned(fields, 8) if version == 2 else fields
+
+
 def sequence(order, fields, octets):
     return aligned(fields) + long(order, len(octets)) + octets
 
 
-def request_fields(order, id, wants, key, name):
-    """No contexts, id, whether a reply is wanted, key and name, and an empty principal."""
+def request_fields(order, id, wants, key, name, version=0):
+    """The fields of a request before its body: no contexts and an empty principal, or the key as the target and no contexts."""
+    if version == 2:
+        return request_fields_of_2(order, id, wants, key, name)
     fields = long(order, 0) + long(order, id) + bytes([wants])
     fields = sequence(order, fields, key.encode())
     fields = sequence(order, fields, name.encode() + b"\0")
     return sequence(order, fields, b"")
 
 
-def reply_fields(order, id, status):
-    return long(order, 0) + long(order, id) + long(order, status)
+def request_fields_of_2(order, id, wants, key, name):
+    """Both lower bits of the flags say that a reply is wanted."""
+    fields = long(order, id) + bytes([3 if wants else 0, 0, 0, 0]) + KEY.to_bytes(2, order)
+    fields = sequence(order, fields, key.encode())
+    fields = sequence(order, fields, name.encode() + b"\0")
+    return sequence(order, fields, b"")
 
 
-def request(order, id, wants, key, name, nodes=(), values=()):
-    """A request whose arguments are values of nodes, each by its id and the table."""
-    fields = request_fields(order, id, wants, key, name)
-    encoding = f"cdr_{order}"
+def reply_fields(order, id, status, version=0):
+    """The fields of a reply before its body, with no contexts; in 1.2 they end at a multiple of 8."""
+    told = [long(order, id), long(order, status)]
+    return b"".join([*told, long(order, 0)] if version == 2 else [long(order, 0), *told])
+
+
+def with_values(order, fields, nodes, values, version):
+    """Fields with the values of nodes behind them, each node by its table and id."""
+    body = before_body(fields, version)
+    begin = len(body)
     for (table, node), value in zip(nodes, values):
-        fields += sent(encoding, table, node, value, 12 + len(fields))
-    return message(order, REQUEST, fields)
+        body += sent(f"cdr_{order}", table, node, value, 12 + len(body))
+    return body if len(body) > begin else fields
 
 
-def refusal(order, id, exception, minor=None, completion=None):
+def request(order, id, wants, key, name, nodes=(), values=(), version=0):
+    """A request whose arguments are values of nodes, each by its id and the table."""
+    fields = request_fields(order, id, wants, key, name, version)
+    return message(order, REQUEST, with_values(order, fields, nodes, values, version), version)
+
+
+def refusal(order, id, exception, minor=None, completion=None, version=0):
     """The reply that refuses a request by an exception."""
-    fields = sequence(order, reply_fields(order, id, USER if minor is None else SYSTEM), exception + b"\0")
+    fields = sequence(order, reply_fields(order, id, USER if minor is None else SYSTEM, version), exception + b"\0")
     if minor is not None:
         fields = aligned(fields) + long(order, minor) + long(order, completion)
-    return message(order, REPLY, fields)
+    return message(order, REPLY, fields, version)
+
+
+def addressing(order, id):
+    """The reply of 1.2 that asks for another target: the object's key."""
+    return message(order, REPLY, reply_fields(order, id, NEEDS_ADDRESSING, 2) + KEY.to_bytes(2, order), 2)
 
 
 # ---- values that are read

@@ -98,7 +98,7 @@ def message_of(back, number, interface, operation, value, table, node):
     if back == "mach":
         id = interface.base + interface.slot(operation)
         return mach.request(0, 0, id, not operation.oneway, sent("mach", table, node, value))
-    return request(BACKS[back].order, number, not operation.oneway, interface.name, operation[0], [(table, node)], [value])
+    return request(BACKS[back].order, number, not operation.oneway, interface.name, operation[0], [(table, node)], [value], BACKS[back].version)
 
 
 def is_read_back(back, interfaces, octets):

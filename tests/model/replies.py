@@ -85,7 +85,7 @@ def read_onc_reply(reader):
 
 
 class CdrReplies(Cdr):
-    """Replies of GIOP 1.0."""
+    """Replies of GIOP 1.0 and 1.2, which are read alike under each word. In 1.2 a body begins where the status and contexts end."""
 
     number = "id"
 
@@ -93,16 +93,16 @@ class CdrReplies(Cdr):
         return True
 
     def reply(self, interface, operation, id, arm, values):
-        fields = reply_fields(self.order, id, USER if arm else 0)
+        fields = reply_fields(self.order, id, USER if arm else 0, self.version)
         if arm:
             fields = sequence(self.order, fields, operation.raises[arm - 1].id.encode() + b"\0")
         writing = Writing(fields, self.order)
         for ty, value in zip(types_of(operation, arm), values):
             writing.value(ty, value)
-        return message(self.order, REPLY, writing.fields)
+        return message(self.order, REPLY, writing.fields, self.version)
 
     def refusal(self, id, name, exception, *numbers):
-        return refusal(self.order, id, exception.encode("latin-1"), *numbers)
+        return refusal(self.order, id, exception.encode("latin-1"), *numbers, version=self.version)
 
     def read_answer(self, interface, operation, octets):
         """The id, the arm, and a reader of its values in the order of the message."""
@@ -147,7 +147,8 @@ class MachReplies(mach.Mach):
         return said["remote"], said["arm"], mach.Reading(octets, said["used"])
 
 
-BACKS = {"xdr": OncReplies(), "cdr-be": CdrReplies("big"), "cdr-le": CdrReplies("little"), "mach": MachReplies()}
+BACKS = {"xdr": OncReplies(), "cdr-be": CdrReplies("big"), "cdr-le": CdrReplies("little"),
+         "cdr12-be": CdrReplies("big", 2), "cdr12-le": CdrReplies("little", 2), "mach": MachReplies()}
 
 
 # ---- records

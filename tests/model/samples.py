@@ -197,9 +197,17 @@ def written(rng, tree):
     return "{" + comma.join(json.dumps(key, **form) + colon + json.dumps(value, **form) for key, value in members) + "}"
 
 
+OVER_CDR = ("cdr-be", "cdr-le", "cdr12-be", "cdr12-le")
+
+
+def writer(rng, back):
+    """The word by which a message is written that is read by a word: over CDR at times another, as each order and version is read."""
+    return rng.choice([back, *OVER_CDR]) if back in OVER_CDR else back
+
+
 def call_lines(rng, back, interfaces, requests):
     """Lines of `unmarshal` over a back end: calls of the requests that have one, most of them wrong somewhere."""
-    for call in (marshal(BACKS[back], interfaces, line) for line in requests):
+    for call in (marshal(BACKS[writer(rng, back)], interfaces, line) for line in requests):
         if not call.startswith("!") and back != "xdr":
             other_line = mach_line if back == "mach" else giop_line
             yield from (line.encode() for line in [call, *(other_line(rng, call) for _ in range(8))])
@@ -233,9 +241,22 @@ def giop_line(rng, call):
     octet = rng.choice(["00", "01", "02", "ff", "80"])
     later = 24 + rng.randrange(len(call) // 2 - 12) * 2
     more = "".join(f"{rng.randrange(256):02x}" for _ in range(rng.randint(1, 9)))
+    if call[10:12] == "02" and rng.random() < 0.3:
+        return giop12_line(rng, call)
     tried = [exchanged(call, at, octet), exchanged(call, later, octet), exchanged(call, later // 8 * 8, rng.choice(ODD_WORDS)[:len(call) - later // 8 * 8])]
     sized = [resized(call[:max(24, at)]), resized(call + more), resized(call[:later] + octet + call[later:])]
     return rng.choice([*tried * 3, *sized * 2, call[:at], call[:at + 1], call + more, call.upper()])
+
+
+def giop12_line(rng, call):
+    """A GIOP request of 1.2 with other flags, another target or version, a context, or another end; most of them tell their size."""
+    zeros = len(call) - len(call.rstrip("0"))
+    context = f"{1:08x}{5:08x}{3:08x}010203" if call[12:14] == "00" else "010000000500000003000000010203"
+    ends = call[:len(call) - zeros // 8 * 8]
+    tried = [exchanged(call, 32, rng.choice(["00", "01", "02", "ff"]) + "abcdef"), exchanged(call, 40, rng.choice(["0001", "0002", "0003", "0100", "0200", "ffff"])),
+             exchanged(call, 10, rng.choice(["00", "01", "03"])), resized(call[:44]), resized(call + rng.choice(["aa", "aabb", "aabbccdd", "aabbccddee"])),
+             resized(ends + context + rng.choice(["", "00", "0000", "ffffffffff", "ffffffffff00000001"]))]
+    return rng.choice(tried)
 
 
 def mach_sized(call):

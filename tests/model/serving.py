@@ -5,9 +5,9 @@ of serving, one row a step: the first that holds decides. None stands for silenc
 """
 import mach
 from calls import LONGEST_LINE, LONGEST_MESSAGE, HeadFault, NoTree, is_hex, lines_of, read_head, tree_of
-from giop import LOCATE_REPLY, MESSAGE_ERROR, Reading, Stop, long, message, read_call
+from giop import LOCATE_REPLY, MESSAGE_ERROR, Reading, Stop, addressing, long, message, read_call
 from replies import BACKS as REPLIES
-from replies import answer_of, is_record, operation_of, types_of
+from replies import CdrReplies, answer_of, is_record, operation_of, types_of
 from values import Array, Enum, Fault, NoValue, Number, Opaque, Pointer, Reader, Struct, Union
 
 LONGEST_REPLIES = 8_388_608
@@ -73,16 +73,20 @@ class Call:
     """What a head says: the number of the reply, and tests of interfaces and operations.
 
     `wants` is whether a reply is wanted, and `key` is there where it is only asked whether there is such an object.
+    `version` is that of the message, where its replies have the same, and `is_addressed` false where its target tells no key.
     """
 
-    def __init__(self, number, is_called, is_named, reader, wants=True, key=None, id=None):
+    def __init__(self, number, is_called, is_named, reader, wants=True, key=None, id=None, version=0, is_addressed=True):
         self.number, self.is_called, self.is_named, self.reader = number, is_called, is_named, reader
-        self.wants, self.key, self.id = wants, key, id
+        self.wants, self.key, self.id, self.version, self.is_addressed = wants, key, id, version, is_addressed
 
 
 class OncServer:
     def __init__(self, replies):
         self.replies = replies
+
+    def replies_to(self, call):
+        return self.replies
 
     def call(self, octets):
         reader = Reader(octets, 0)
@@ -112,24 +116,35 @@ class OncServer:
 
 
 class CdrServer:
+    """Answers in the command's order, and in the version of the request. Where that is not known it is the command's."""
+
     def __init__(self, replies):
         self.replies = replies
+
+    def replies_to(self, call):
+        return CdrReplies(self.replies.order, call.version)
 
     def call(self, octets):
         said = read_call(octets)
         if said["ask"] == "locate":
-            return Call(said["id"], lambda i: i.name.encode() == said["key"], None, None, key=said["key"])
+            return Call(said["id"], lambda i: i.name.encode() == said["key"], None, None, key=said["key"], version=said["version"])
+        if said["ask"] == "addressing":
+            return Call(said["id"], lambda i: False, None, None, wants=said["wants"], version=said["version"], is_addressed=False)
         return Call(said["id"], lambda i: i.name.encode() == said["key"], lambda _, op: op[0].encode() == said["name"],
-                    Reading(octets, said["used"], said["order"]), wants=said["wants"])
+                    Reading(octets, said["used"], said["order"]), wants=said["wants"], version=said["version"])
 
     def bad_head(self, fault, octets):
-        return None if fault == "Type_" and octets[7] in OTHER_TYPES else message(self.replies.order, MESSAGE_ERROR, b"")
+        return None if fault == "Type_" and octets[7] in OTHER_TYPES else message(self.replies.order, MESSAGE_ERROR, b"", self.replies.version)
 
     def located(self, call, is_there):
-        return message(self.replies.order, LOCATE_REPLY, long(self.replies.order, call.number) + long(self.replies.order, is_there))
+        order = self.replies.order
+        return message(order, LOCATE_REPLY, long(order, call.number) + long(order, is_there), call.version)
+
+    def readdressed(self, call):
+        return addressing(self.replies.order, call.number)
 
     def refusal(self, call, name, completion=NOT_DONE):
-        return self.replies.refusal(call.number, "SYSTEM_EXCEPTION", f"IDL:omg.org/CORBA/{name}:1.0", 0, completion)
+        return self.replies_to(call).refusal(call.number, "SYSTEM_EXCEPTION", f"IDL:omg.org/CORBA/{name}:1.0", 0, completion)
 
     def no_interface(self, call, interfaces):
         return self.refusal(call, "OBJECT_NOT_EXIST")
@@ -147,6 +162,9 @@ class CdrServer:
 class MachServer:
     def __init__(self, replies):
         self.replies = replies
+
+    def replies_to(self, call):
+        return self.replies
 
     def call(self, octets):
         said = mach.read_call(octets)
@@ -190,6 +208,8 @@ def answered(server, interfaces, table, octets):
         return server.located(call, called is not None)
     if not call.wants:
         return None
+    if not call.is_addressed:
+        return server.readdressed(call)
     if called is None:
         return server.no_interface(call, interfaces)
     operation = next((op for op in server.replies.operations(called) if call.is_named(called, op)), None)
@@ -200,7 +220,7 @@ def answered(server, interfaces, table, octets):
     if not is_read(server.replies, call.reader, operation, octets):
         return server.bad_body(call)
     arm, values = table.get(f"{called.name}.{operation[0]}", (0, [blank(ty) for ty in types_of(operation, 0)]))
-    reply = server.replies.reply(called, operation, call.number, arm, values)
+    reply = server.replies_to(call).reply(called, operation, call.number, arm, values)
     return reply if len(reply) <= LONGEST_MESSAGE else server.long_answer(call)
 
 

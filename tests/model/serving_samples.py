@@ -10,14 +10,14 @@ import random
 import sys
 
 import corba_samples
-from calls import BACKS, marshal
+from calls import BACKS, marshal, unmarshal
 from corba_names import interfaces_of
 from corba_nodes import told_of_names
 from files import interfaces_of as onc_interfaces_of
-from giop import LOCATE_REPLY, LOCATE_REQUEST, MESSAGE_ERROR, REQUEST, long, message, read_call, request_fields
+from giop import LOCATE_REPLY, LOCATE_REQUEST, MESSAGE_ERROR, NEEDS_ADDRESSING, REQUEST, before_body, long, message, read_call, request_fields
 from replies import BACKS as REPLIES
 from replies import members_of, record_of, reply, types_of, unreply
-from samples import ODD_LINES, FileMaker, call_lines, mach_sized, mutated, request_lines, resized, sample
+from samples import ODD_LINES, OVER_CDR, FileMaker, call_lines, mach_sized, mutated, request_lines, resized, sample, writer
 from serving import NO_OPERATION, SERVERS, BadReplies, answered, table_of
 
 LINES = 20
@@ -46,9 +46,10 @@ def reply_lines(rng, back, interfaces, count):
 
 
 def replied_lines(rng, back, interfaces, lines):
-    """Lines of `unreply` over a back end: replies, most of them cut or with another octet somewhere."""
+    """Lines of `unreply` over a back end: replies, most of them cut or with another octet somewhere. Over CDR each word writes some."""
+    over_cdr = [REPLIES[word] for word in OVER_CDR]
     for line in lines:
-        message = reply(back, interfaces, line)
+        message = reply(rng.choice([back, *over_cdr]) if back in over_cdr else back, interfaces, line)
         if not message.startswith("!"):
             name = json.loads(line)["op"]
             yield f"{name} {message}".encode()
@@ -100,18 +101,23 @@ def onc_aimed(rng, interfaces, call):
 
 
 def giop_aimed(rng, interfaces, call):
-    """A request with another type, version or order in its header, another boolean, key or name; or a search of its object."""
+    """A request with another type, version or order in its header, another boolean, key, name or target; or a search of its object."""
     said = read_call(call)
-    order, edits = said["order"], rng.choice([0, 0, 0, 1, 1, 2])
+    order, version, edits = said["order"], said["version"], rng.choice([0, 0, 0, 1, 1, 2])
+    target = rng.choice([0] * 6 + [1, 2, 3, 65535]).to_bytes(2, order)
     key = rng.choice([said["key"], said["key"], rng.choice(interfaces).name.encode(), said["key"] + b"x", said["key"][:-1]])
     if rng.random() < 0.2:
-        fields = long(order, said["id"]) + long(order, len(key)) + key + rng.choice([b"", b"", b"", b"\0"])
-        return message(order, LOCATE_REQUEST, fields)[:len(fields) + 12 - rng.choice([0, 0, 0, 1])]
+        fields = long(order, said["id"]) + (target + bytes(2)) * (version == 2) + long(order, len(key)) + key + rng.choice([b"", b"", b"", b"\0"])
+        return message(order, LOCATE_REQUEST, fields, version)[:len(fields) + 12 - rng.choice([0, 0, 0, 1])]
     name = rng.choice([said["name"], said["name"] + b"x", said["name"][:-1], b""])
     if rng.random() < 0.5:
-        fields = request_fields(order, said["id"], rng.choice([said["wants"], 0]), key.decode(), name.decode())
-        call = message(order, REQUEST, fields + call[said["used"]:])
-    for at, octets in rng.sample([(7, [1, 2, 3, 4, 5, 6, 7, 255]), (5, [1, 2]), (6, [0, 1, 2]), (0, [0]), (20, [0, 0, 0, 2])], edits):
+        fields = request_fields(order, said["id"], rng.choice([said["wants"], 0]), key.decode(), name.decode(), version)
+        body = call[said["used"]:]
+        call = message(order, REQUEST, (before_body(fields, version) if body else fields) + body, version)
+    if version == 2 and rng.random() < 0.3:
+        call = call[:20] + target + call[22:]
+    places = [(20, [0, 0, 0, 2])] if version == 0 else [(16, [0, 1, 2, 254]), (21, [1, 2, 3])]
+    for at, octets in rng.sample([(7, [1, 2, 3, 4, 5, 6, 7, 255]), (5, [0, 1, 2]), (6, [0, 1, 2]), (0, [0]), *places], edits):
         call = call[:at] + bytes([rng.choice(octets)]) + call[at + 1:]
     return call
 
@@ -126,7 +132,6 @@ def mach_aimed(rng, interfaces, call):
 
 
 AIMED = {"xdr": onc_aimed, "mach": mach_aimed}
-ORDERS = {"cdr-be": ("cdr-be", "cdr-be", "cdr-le"), "cdr-le": ("cdr-le", "cdr-le", "cdr-be")}  # what requests over CDR are written by
 
 
 def with_body(rng, name, call):
@@ -140,7 +145,7 @@ def with_body(rng, name, call):
 def served_lines(rng, name, interfaces, requests, count=3):
     """Lines of `serve` over a back end: right messages, and so many of each that a server refuses in some way, most of them."""
     for line in requests:
-        call = marshal(BACKS[rng.choice(ORDERS.get(name, [name]))], interfaces, line)
+        call = marshal(BACKS[writer(rng, name)], interfaces, line)
         if not call.startswith("!"):
             yield call.encode()
             for _ in range(count):
@@ -158,11 +163,28 @@ def unread(back, interfaces, line):
     return "" if again == message else f"{message} is read as {record}"
 
 
+def unlike(interfaces, line):
+    """What is wrong with a line of `marshal` or `reply` over CDR, or nothing: its messages of each order and version are read alike under each word, and replies are as long in each version."""
+    requests = {word: marshal(BACKS[word], interfaces, line) for word in OVER_CDR}
+    answers = {word: reply(REPLIES[word], interfaces, line) for word in OVER_CDR}
+    lengths = {len(answer) for answer in answers.values()}
+    if len(lengths) > 1:
+        return f"replies of {line} have {lengths} digits"
+    read = {unmarshal(BACKS[word], interfaces, told.encode()) for told in requests.values() if not told.startswith("!") for word in OVER_CDR}
+    if len(read) > 1:
+        return f"{line} is read as {read}"
+    name = json.loads(line)["op"] if not answers["cdr-be"].startswith("!") else ""
+    read = {unreply(REPLIES[word], interfaces, f"{name} {told}".encode()) for told in answers.values() if name for word in OVER_CDR}
+    return f"{line} is read as {read}" if len(read) > 1 else ""
+
+
 def unanswered(name, table, interfaces, octets):
     """What is wrong with what is served of a message, or nothing."""
     told = answered(SERVERS[name], interfaces, table, octets)
     if told is None or told[:4] == b"GIOP" and told[7] in (LOCATE_REPLY, MESSAGE_ERROR):
         return ""
+    if told[:6] == b"GIOP\1\2" and NEEDS_ADDRESSING in told[16:20]:
+        return "" if len(told) == 26 and octets[4:6] == b"\1\2" else told.hex()
     records = (record_of(REPLIES[name], i, op, told) for i in interfaces for op in REPLIES[name].operations(i))
     is_unknown = name == "mach" and int.from_bytes(told[28:], "little", signed=True) == NO_OPERATION
     return "" if is_unknown or any(not record.startswith("!") for record in records) else told.hex()
@@ -192,6 +214,9 @@ def checked(rng, interfaces):
         yield untaken(back, interfaces, refused_lines(rng, back, interfaces))
         table = table_of(back, interfaces, given_lines(rng, back, interfaces))
         requests = list(request_lines(rng, name, interfaces, LINES))
+        if name in OVER_CDR:
+            for line in [*requests, *reply_lines(rng, back, interfaces, LINES)]:
+                yield unlike(interfaces, line)
         for line in [*call_lines(rng, name, interfaces, requests), *served_lines(rng, name, interfaces, requests)]:
             if len(line) % 2 == 0:
                 yield unanswered(name, table, interfaces, bytes.fromhex(line.decode()))

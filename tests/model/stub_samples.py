@@ -11,11 +11,12 @@ import sys
 import corba_samples
 import mig
 import mig_samples
+from calls import BACKS
 from corba_names import interfaces_of as corba_interfaces_of
 from corba_nodes import told_of_names
 from counting import ENCODINGS, requests_of, stubs_wrong
 from files import interfaces_of
-from giop import REQUEST, request_fields
+from giop import REQUEST, before_body, request_fields
 from giop import message as giop_message
 from mach import request as mach_request
 from nodes import ENOUGH, ITEMS, LONG, MOST_UNITS, SHORT, WIDTHS, arm_of, count_of, is_exact, is_long, row_kind, span, tag_kind, top
@@ -126,8 +127,10 @@ def framed(back, interface, operation, code):
         ports = [(8, "head", "remote", 4, "little"), (12, "head", "local", 4, "little")][:1 + (not operation.oneway)]
         return chunk(24, (0, "const", head), *ports) + code + [(("patch", 4, 0, "little"), None)]
     order = ORDER_OF[ENCODINGS[back]]
-    head = giop_message(order, REQUEST, request_fields(order, 0, not operation.oneway, interface.name, operation[0]))
-    return chunk(len(head), (0, "const", head), (16, "head", "id", 4, order)) + code + [(("patch", 8, 12, order), None)]
+    version = BACKS[back].version
+    fields = request_fields(order, 0, not operation.oneway, interface.name, operation[0], version)
+    head = giop_message(order, REQUEST, before_body(fields, version) if code else fields, version)
+    return chunk(len(head), (0, "const", head), (16 if version == 0 else 12, "head", "id", 4, order)) + code + [(("patch", 8, 12, order), None)]
 
 
 # ---- room

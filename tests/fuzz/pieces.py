@@ -57,10 +57,10 @@ def given(pipe, stream, sizes):
         os.close(pipe)
 
 
-def unpiped(words, stream, sizes):
-    """What a run writes of a stream that comes in such pieces, and its status."""
+def fed(words, stream, sizes):
+    """What a run writes of an input that comes in pieces of such sizes, and its status."""
     end, pipe = os.pipe()
-    with subprocess.Popen(words, stdin=end, stdout=subprocess.PIPE, stderr=subprocess.PIPE) as run:
+    with subprocess.Popen(words, stdin=end, stdout=subprocess.PIPE, stderr=subprocess.DEVNULL) as run:
         os.close(end)
         writer = threading.Thread(target=given, args=(pipe, stream, sizes))
         writer.start()
