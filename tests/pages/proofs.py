@@ -33,7 +33,6 @@ TOP_CALL = ("flick_top", "flick")
 AROUND = re.compile(r"^(?:(?:IfOk|IfSome|IfErr) \S+ \(λ [^.]*\. |(?:OnOk|OnErr|IfNone) \S+ \(|(?:IfOk|IfSome) result (?=[A-Z])|\()")
 COMMON = ("NoneFell", "Gives")  # definitions that many clauses cite, which docs/CONTRIBUTING.md tells
 SHOWN = 1  # bugs of a row
-MORE = 1  # bugs of functions inside a crate
 DEFINED = 2  # bugs of definitions
 LONG = 8  # words of what is not told again
 
@@ -98,12 +97,8 @@ def inside(by, shown):
     left = [(name, bug) for (owner, name), bugs in by.items() if (owner, name) not in shown for bug in bugs]
     if not left:
         return
-    few, seen = [], set()
-    for name, bug in sorted(left, key=lambda pair: "clause" not in pair[1]):
-        if name not in seen and len(few) < MORE:
-            few.append(quoted(bug, name))
-            seen.add(name)
-    yield f"Inside: {', '.join(few)}{f'; {len(left) - len(few)} more' if len(left) > len(few) else ''}."
+    names = {name for name, _ in left}
+    yield f"Inside: {len(left)} bug{'s' if len(left) > 1 else ''} of {len(names)} function{'s' if len(names) > 1 else ''}."
 
 
 def of_definitions(crate):
