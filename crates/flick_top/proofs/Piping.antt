@@ -1,6 +1,6 @@
 -- What is written under `pipe`, by the digits that a message is, or by a refusal.
-use Rattle.std.proofs.Common.{◌≡◌, ℕ, List, [], ◌∷◌, Bool, true, false, slice_index, Result, Ok, Err, refl, sym, ap, ◌∙◌, subst, arith}
-use Rattle.std.specs.Prelude.{◌==◌}
+use Rattle.std.proofs.Common.{◌≡◌, ℕ, List, [], ◌∷◌, Bool, true, false, slice_index, Option, Some, None, Result, Ok, Err, refl, sym, ap, ◌∙◌, subst, arith}
+use Rattle.std.specs.Prelude.{codes, ◌==◌}
 use Rattle.std.proofs.lemmas.Bool.{eqb-true}
 use Rattle.std.proofs.lemmas.List.Elements.{All-head}
 use Rattle.hex.specs.Hex.{decode_of, encode_lower, is_hex_digit}
@@ -9,8 +9,11 @@ use Rattle.hex.proofs.HexLemmas.{decode_of-ok}
 use Rattle.wire_def.specs.declared.encoding.Back.{Back}
 use Rattle.stub_codes.specs.Stubs.{Coded}
 use Rattle.flick_lines.specs.declared.verb.Verb.TheVariants.{Marshal}
+use Rattle.flick_lines.specs.Marshalled.{text_in, IsEither}
 use Rattle.flick_lines.specs.Verbs.{IsAnswerTo}
-use Rattle.flick_top.specs.Answer.{frame_of, framed, is_refusal, IsPiped}
+use Rattle.flick_top.specs.declared.job.Job.{Job}
+use Rattle.flick_top.specs.declared.job.Job.TheVariants.{Pipe}
+use Rattle.flick_top.specs.Answer.{frame_of, framed, is_refusal, written_of, IsPiped}
 
 -- an octet is a digit
 abbrev IsDigit : ℕ → Type 0
@@ -46,18 +49,30 @@ digits_quiet (x ∷ text) m spelled = go (x == 33) refl where
   go false e = e
 
 -- a refusal adds nothing
-pub piped-refused : (e : Coded) (line refusal : List ℕ) → IsAnswerTo Marshal e line refusal → slice_index refusal 0 ≡ 33
-    → IsPiped e line [] true
-piped-refused e line refusal is marked =
-    (refusal, is, sym (no-frame e.binding.back refusal marked), sym (marked-refusal refusal marked))
+pub piped-some : (e : Coded) (line : List ℕ) (o : Option (List ℕ)) (refusal held out : List ℕ) → o ≡ Some refusal
+    → IsAnswerTo Marshal e line (text_in o held) → IsEither o held → out ≡ [] → IsPiped e line out true
+piped-some e line o refusal held out is answers either none =
+    let marked : slice_index refusal 0 ≡ 33 = subst (λ (x : Option (List ℕ)). IsEither x held) is either in (
+      refusal,
+      subst (λ (x : Option (List ℕ)). IsAnswerTo Marshal e line (text_in x held)) is answers,
+      none ∙ sym (no-frame e.binding.back refusal marked),
+      sym (marked-refusal refusal marked),
+    )
 
 -- a message is framed
-pub piped-made : (e : Coded) (line held message : List ℕ) (back : Back) (o : List ℕ) → IsAnswerTo Marshal e line (encode_lower held)
-    → message ≡ held → back ≡ e.binding.back → decode_of (encode_lower message) ≡ Ok message → o ≡ framed back message
-    → IsPiped e line o false
-piped-made e line held message back o is same of spelled laid = (
-  encode_lower message,
-  subst (λ (m : List ℕ). IsAnswerTo Marshal e line (encode_lower m)) (sym same) is,
-  laid ∙ ap (λ (k : Back). framed k message) of ∙ sym (ap (frame_of e.binding.back) spelled),
-  sym (digits_quiet (encode_lower message) message spelled),
-)
+pub piped-none : (e : Coded) (line : List ℕ) (o : Option (List ℕ)) (held message : List ℕ) (back : Back) (out : List ℕ) → o ≡ None
+    → IsAnswerTo Marshal e line (text_in o held) → message ≡ held → back ≡ e.binding.back
+    → decode_of (encode_lower message) ≡ Ok message → out ≡ framed back message → IsPiped e line out false
+piped-none e line o held message back out is answers same of spelled laid =
+    let digits : IsAnswerTo Marshal e line (encode_lower held) =
+    subst (λ (x : Option (List ℕ)). IsAnswerTo Marshal e line (text_in x held)) is answers in (
+      encode_lower message,
+      subst (λ (m : List ℕ). IsAnswerTo Marshal e line (encode_lower m)) (sym same) digits,
+      laid ∙ ap (λ (k : Back). framed k message) of ∙ sym (ap (frame_of e.binding.back) spelled),
+      sym (digits_quiet (encode_lower message) message spelled),
+    )
+
+-- a line that is too long adds nothing
+pub piped-long : (job : Job) (e : Coded) (o : List ℕ) → job ≡ Pipe e → o ≡ [] → o ≡ written_of job (codes "! long")
+piped-long job e o is none =
+    subst (λ (j : Job). o ≡ written_of j (codes "! long")) (sym is) (none ∙ sym (no-frame e.binding.back (codes "! long") refl))

@@ -46,7 +46,7 @@ pub fn piped(
 fn framed(alloc: Global, back: Back, message: &[u8]) -> Result<Octets, NoMemory>
     requires { length message.now ≤ longest_message }
     ensures value { IfOk result (λ o. o ≡ framed back message.now) }
-    ensures spelled { decode_of (encode_lower message.now) ≡ Ok message.now }
+    ensures spelled { OnOk result (decode_of (encode_lower message.now) ≡ Ok message.now) }
 {
     let mut out = Octets::with_room(alloc, message.len().saturating_add(4))?;
     if let Some(head) = frame_head(back, message.len() as u32) {

@@ -1,19 +1,17 @@
 use Rattle.std.proofs.Common.{arith, ◌≡◌, [], ◌∷◌, ◌++◌, List, ℕ, Bool, refl, sym, ap, ◌∙◌, subst, Ok, Err}
 use Rattle.std.specs.Prelude.{if◌then◌else◌}
-use Rattle.std.specs.Io.KnownBytes.{Appends}
 use Rattle.std.proofs.KnownBytes.{Appends-nil}
 use Rattle.kit_base.specs.Causes.{Rose}
 use Rattle.kit_base.specs.declared.lines.LineErr.{LineErr}
 use Rattle.kit_base.specs.declared.lines.LineErr.TheVariants.{Failed, TooMuch}
 use Rattle.raw_buf.proofs.Standing.{none_fell-refl, none_fell-trans}
-use Rattle.flick_top.specs.declared.items.Item.{Item}
-use Rattle.flick_top.specs.Answer.{Answer, answers}
+use Rattle.flick_top.specs.Answer.{Answer, cutting_of}
 use Rattle.flick_top.specs.Status.{number_of}
 use Rattle.flick_top.specs.Turn.{status_at}
 use Rattle.flick_top.proofs.Begun.{came-to-end, given-begun, went-on}
 use Rattle.flick_top.proofs.Determined.{one_answer}
 use Rattle.flick_top.proofs.Doing.{stopped, broken, finished}
-use Rattle.flick_top.proofs.Prefix.{WrotePrefix, front-failed}
+use Rattle.flick_top.proofs.Prefix.{front-failed, wrote-ended}
 use Rattle.flick_top.proofs.Stops.{failed-of, too_much-of, above-output, not-sink, ends-as}
 use Rattle.flick_top.proofs.Turning.{one_more}
 use Rattle.flick_top.proofs.turns.answer_items.Goals as goal
@@ -41,6 +39,51 @@ turns-preserved g c =
       spent = none_fell-trans _ _ _ c.turns.invariant.spent c.in-Ok.ensures.spent;
     }
 
+pub turns-preserved-in_default-write_whole : goal.turns-preserved-in_default-write_whole
+turns-preserved-in_default-write_whole g c =
+    let (given, so, written) = c.turns.invariant.answered in
+    let wrote = rw c.as_slice.ensures at c.in_default-write_whole.ensures.ok in
+    record {
+      answered = (
+        given ++ c.in-Ok-Some.item ∷ [],
+        went-on _ _ _ _ _ c.in-Ok-Some.item c.in-Ok-Some.field-0-is c.in-Ok-Some.ensures.goes _ _ given so,
+        one_more _ _ _ _ given c.in-Ok-Some.item _ _ _ _ _ _ _ written c.in-Ok.ensures.answers wrote c.either-refused.ensures,
+      );
+      reads = c.turns.invariant.reads ∙ c.in-Ok-Some.ensures.reported (λ e. absurd (cc e));
+      writes = c.turns.invariant.writes ∙ c.in_default-write_whole.ensures.cause.ok;
+      spent = none_fell-trans _ _ _ c.turns.invariant.spent c.in-Ok.ensures.spent;
+    }
+
+pub turns-preserved-in_default-write_whole-2 : goal.turns-preserved-in_default-write_whole-2
+turns-preserved-in_default-write_whole-2 g c =
+    let (given, so, written) = c.turns.invariant.answered in
+    let wrote = rw c.as_slice.ensures at c.in_default-write_whole.ensures.ok in
+    record {
+      answered = (
+        given ++ c.in-Ok-Some.item ∷ [],
+        went-on _ _ _ _ _ c.in-Ok-Some.item c.in-Ok-Some.field-0-is c.in-Ok-Some.ensures.goes _ _ given so,
+        one_more _ _ _ _ given c.in-Ok-Some.item _ _ _ _ _ _ _ written c.in-Ok.ensures.answers wrote c.either-refused.ensures,
+      );
+      reads = c.turns.invariant.reads ∙ c.in-Ok-Some.ensures.reported (λ e. absurd (cc e));
+      writes = c.turns.invariant.writes ∙ c.in_default-write_whole.ensures.cause.ok;
+      spent = none_fell-trans _ _ _ c.turns.invariant.spent c.in-Ok.ensures.spent;
+    }
+
+pub turns-preserved-in_default-write_whole-3 : goal.turns-preserved-in_default-write_whole-3
+turns-preserved-in_default-write_whole-3 g c =
+    let (given, so, written) = c.turns.invariant.answered in
+    let wrote = rw c.as_slice.ensures at c.in_default-write_whole.ensures.ok in
+    record {
+      answered = (
+        given ++ c.in-Ok-Some.item ∷ [],
+        went-on _ _ _ _ _ c.in-Ok-Some.item c.in-Ok-Some.field-0-is c.in-Ok-Some.ensures.goes _ _ given so,
+        one_more _ _ _ _ given c.in-Ok-Some.item _ _ _ _ _ _ _ written c.in-Ok.ensures.answers wrote c.either-refused.ensures,
+      );
+      reads = c.turns.invariant.reads ∙ c.in-Ok-Some.ensures.reported (λ e. absurd (cc e));
+      writes = c.turns.invariant.writes ∙ c.in_default-write_whole.ensures.cause.ok;
+      spent = none_fell-trans _ _ _ c.turns.invariant.spent c.in-Ok.ensures.spent;
+    }
+
 -- ---- where the input cannot be read on
 
 pub returns-in-Err-clause-done : goal.returns-in-Err-clause-done
@@ -49,10 +92,8 @@ returns-in-Err-clause-done g c = λ f all coded.
     let failed = c.in-Err.ensures.goes _ _ given so in
     stopped c.args.job.now f coded _ _ _ _ _ _ _ _ (number_of c.status_at.result) given failed.begins (written f all).0
     (above-output c.in-Err.error c.status_at.result c.status_at.ensures) (not-sink c.in-Err.error c.status_at.result c.status_at.ensures)
-    (λ four input reported.
-    let error : c.in-Err.error ≡ Failed = failed-of c.in-Err.error (omega (arith, ap number_of c.status_at.ensures, four)) in
-    let (taken, consumed, few, same) = failed.failed error in
-    (taken, consumed, subst (λ (l : List Item). Appends _ _ (answers f l)) (sym same) (written f all).0))
+    (λ four input reported. wrote-ended (cutting_of c.args.job.now) _ _ given c.in-Err.error f _ _ failed
+    (failed-of c.in-Err.error (omega (arith, ap number_of c.status_at.ensures, four))) (written f all).0)
 
 pub returns-in-Err-clause-spent : goal.returns-in-Err-clause-spent
 returns-in-Err-clause-spent g c = c.turns.invariant.spent
@@ -76,7 +117,7 @@ pub returns-in-Err-clause-source : goal.returns-in-Err-clause-source
 returns-in-Err-clause-source g c = λ four.
     let (given, so, written) = c.turns.invariant.answered in
     let error : c.in-Err.error ≡ Failed = failed-of c.in-Err.error (omega (arith, ap number_of c.status_at.ensures, four)) in
-    subst (λ (n : ℕ). Rose n (g.S.Source.faults c.next.new.input)) (sym c.turns.invariant.reads)
+    subst (λ (n : ℕ). Rose n (g.S.Source.faults c.next.new.source)) (sym c.turns.invariant.reads)
     (c.next.ensures.failed _ _ given so (c.in-Err.is ∙ ap Err error))
 
 pub returns-in-Err-clause-source_reported : goal.returns-in-Err-clause-source_reported
@@ -143,8 +184,8 @@ returns-in-Err-write_whole-clause-done g c = λ f all coded.
     let same = one_answer c.args.job.now item a (f item) is (all item) in
     let part = rw c.as_slice.ensures at c.in-Err-write_whole.ensures.err in
     broken c.args.job.now f coded _ _ _ _ _ _ _ _ 5
-    (λ input reported. front-failed _ _ given item f _ _ _ input (given-begun _ _ _ _ (given ++ item ∷ []) on).begins reported
-    (written f all).0 (subst (λ (l : List ℕ). WrotePrefix _ _ l) (sym o ∙ ap (λ (x : Answer). x.octets) same) part))
+    (λ input reported. front-failed (cutting_of c.args.job.now) _ given item f _ _ _ c.in-Ok.answer.octets input
+    (sym o ∙ ap (λ (x : Answer). x.octets) same) (given-begun _ _ _ _ (given ++ item ∷ []) on).begins reported (written f all).0 part)
     refl
 
 pub returns-in-Err-write_whole-clause-spent : goal.returns-in-Err-write_whole-clause-spent
