@@ -9,7 +9,7 @@ TOP = os.path.dirname(os.path.dirname(os.path.abspath(__file__)))
 CRATE = ("kit_base", {
     "README.md": """# NAME
 
-TO WRITE: what this crate is, in a noun phrase, which `docs/ARCHITECTURE.md` shows; ten lines of use; 80 to 200 words in all.
+TO WRITE: what this crate is, in a noun phrase, which `docs/ARCHITECTURE.md` shows; ten lines of use; 80 to 130 words in all.
 
 ## Only tested
 

@@ -16,12 +16,14 @@ from making import made
 from nodes import blank, is_exact, numbers_of, regions, sent
 from stub_chunks import Phase, chunked
 from stub_runs import Sending, Undefined, received_by, sent_by
+from stub_takes import STARTS, joined
 from stub_texts import NoStub, stubs_of, text_of
 from values import Array, Fault, Number, Opaque, Pointer, Reader, String, Struct, Union
 
 ENCODINGS = {"xdr": "xdr", "cdr-be": "cdr_big", "cdr-le": "cdr_little", "cdr12-be": "cdr_big", "cdr12-le": "cdr_little", "mach": "mach"}
 START = Phase(8, 0)
 HEAD = {"id": 0, "remote": 0, "local": 0}
+MOST_TESTS = 24  # of each entry of a value that is received
 
 # An operation with its whole name, the node of its requests, and the octets of their head.
 Request = namedtuple("Request", "interface operation name nodes id lead")
@@ -236,6 +238,9 @@ def receive_by(back, request, stub, message):
         given = received_by(stub, request.nodes, request.id, message, request.lead)
     except Undefined as fault:
         raise Wrong(f"code that strays over {message.hex()[:400]}: {fault}") from None
+    if given:
+        entries, _ = entries_and_leaves(ENCODINGS[back], request.nodes, request.id, given[0])
+        need(given[2] <= MOST_TESTS * (1 + entries), f"{given[2]} tests over {1 + entries} entries")
     return given and given[:2]
 
 
@@ -254,6 +259,7 @@ def stubs_wrong(rng, back, interfaces, text, times=3, changes=6):
         stubs = stubs_in(text, requests, ["send", "recv"])
         for place, request in enumerate(requests):
             send, receive = stubs[2 * place:2 * place + 2]
+            need(joined(STARTS[ENCODINGS[back]], receive.code) == receive.code, f"{request.name}: tests or takes that may be one")
             for _ in range(times):
                 value = made(rng.randrange(2 ** 64), request.nodes, request.id)
                 head = {name: rng.choice([0, 1, 2 ** 32 - 1]) for name in HEAD}

@@ -60,15 +60,16 @@ def mach(stream, at):
     return sized(stream, at, length)
 
 
-READERS = {"xdr": record, "cdr-be": giop, "cdr-le": giop, "mach": mach}
+# The readers of the formats that are not GIOP, whose messages are alike in every version and order.
+READERS = {"xdr": record, "mach": mach}
 
 
 def cut(back, stream):
     """The messages of a stream, and how it ends: None, Cut, or a fault."""
-    messages, at = [], 0
+    messages, at, read = [], 0, READERS.get(back, giop)
     try:
         while at < len(stream):
-            found = READERS[back](stream, at)
+            found = read(stream, at)
             if found == WAITS:
                 return messages, "Cut"
             messages.append(found[0])

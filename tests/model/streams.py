@@ -8,20 +8,17 @@ the text of an interface file is.
 import framing
 from calls import BACKS, lines_of, marshal, unmarshal
 
-# Where a message of GIOP ends is told by its header in each version.
-FRAMED_AS = {"cdr12-be": "cdr-be", "cdr12-le": "cdr-le"}
-
 
 def piped(back, interfaces, octets):
     """What `pipe` writes over an input, and its status."""
     answers = [marshal(BACKS[back], interfaces, line) for line in lines_of(octets)]
-    framed = [framing.framed(FRAMED_AS.get(back, back), bytes.fromhex(answer)) for answer in answers if not answer.startswith("!")]
+    framed = [framing.framed(back, bytes.fromhex(answer)) for answer in answers if not answer.startswith("!")]
     return b"".join(framed), int(len(framed) < len(answers))
 
 
 def unpiped(back, interfaces, octets):
     """What `unpipe` writes over an input, and its status."""
-    messages, end = framing.cut(FRAMED_AS.get(back, back), octets)
+    messages, end = framing.cut(back, octets)
     answers = [unmarshal(BACKS[back], interfaces, message.hex().encode()) for message in messages]
     answers += [f"! frame {end}"] * (end is not None)
     return "".join(f"{answer}\n" for answer in answers).encode(), int(any(answer.startswith("!") for answer in answers))

@@ -21,8 +21,10 @@ from giop import message as giop_message
 from mach import request as mach_request
 from nodes import ENOUGH, ITEMS, LONG, MOST_UNITS, SHORT, WIDTHS, arm_of, count_of, is_exact, is_long, row_kind, span, tag_kind, top
 from samples import FileMaker, long_file, widened
+from stub_chunks import Phase, chunked
 from stub_runs import Undefined, received_by, sent_by
-from stub_texts import Stub, stubs_of, text_of
+from stub_takes import STARTS, joined
+from stub_texts import Stub, lines_of, stubs_of, text_of
 
 ORDER_OF = {"xdr": "big", "cdr_big": "big", "cdr_little": "little", "mach": "little"}
 
@@ -258,10 +260,45 @@ def row_operation(encoding, node, path, width):
 
 
 def send_stub(back, interface, operation, nodes, id):
-    """A stub that sends the requests of an operation, with ensures and rows."""
+    """A stub that sends the requests of an operation, after all passes."""
+    code = [*stages(back, interface, operation, nodes, id)][-1][1]
+    return Stub("send", f"{interface.name}.{operation[0]}", code, [])
+
+
+def stages(back, interface, operation, nodes, id):
+    """The code of an operation's requests, inlined and with its head, and after each pass."""
     encoding = ENCODINGS[back]
-    code = Hoist(encoding, nodes).hoisted(id, framed(back, interface, operation, sending(encoding, nodes, id)))
-    return Stub("send", f"{interface.name}.{operation[0]}", in_rows(encoding, nodes, id, code), [])
+    code = framed(back, interface, operation, sending(encoding, nodes, id))
+    yield "inline", code
+    code = Hoist(encoding, nodes).hoisted(id, code)
+    yield "hoist", code
+    code = in_rows(encoding, nodes, id, code)
+    yield "rows", code
+    yield "chunk", chunked(Phase(8, 0), code)
+
+
+# Types, and what they are as nodes, of which docs/STUBS.md shows the code.
+LOWERED = (
+    ("int", [["num", "i32"]]),
+    ("octet", [["num", "u8"]]),
+    ("string<8>", [["text", {"most": 8}]]),
+    ("short<8>", [["row", "i16", {"most": 8}]]),
+    ("hyper<4096>", [["row", "i64", {"most": 4096}]]),
+    ("union switch (int) { case 1: void; default: int; }", [["void"], ["num", "i32"], ["choice", "i32", [[1, 0]], 1]]),
+    ("int *", [["num", "i32"], ["maybe", 0]]),
+)
+
+
+def texts_of_lowered(encodings):
+    """The text of the inlined code of each of these types over encodings."""
+    return [(said, ["\n".join(lines_of(sending(encoding, nodes, len(nodes) - 1))) for encoding in encodings]) for said, nodes in LOWERED]
+
+
+def texts_of_stages(back, file, name):
+    """The text of each of these, without names, of an operation of a file."""
+    request = next(each for each in requests_of(back, interfaces_of(file)) if each.operation[0] == name)
+    found = stages(back, request.interface, request.operation, request.nodes, request.id)
+    return [(pass_, "\n".join(lines_of(code))) for pass_, code in found]
 
 
 # ---- receiving
@@ -333,7 +370,7 @@ def stubs_text(back, interfaces):
     written = []
     for request in requests_of(back, interfaces):
         written.append(text_of(send_stub(back, request.interface, request.operation, request.nodes, request.id)))
-        code = receiving(ENCODINGS[back], request.nodes, request.id)
+        code = joined(STARTS[ENCODINGS[back]], receiving(ENCODINGS[back], request.nodes, request.id))
         written.append(text_of(Stub("recv", request.name, code, [])))
     return "".join(written)
 
@@ -348,7 +385,7 @@ SENT_PAIRS = "0000000200000001fffffffe0000000300000004"
 EACH_PAIR = "each .\nchunk 4\nat 0 num .0 4 be\nend\nchunk 4\nat 0 num .1 4 be\nend\nend\n"
 ROW = {"row": "i32", "of": [7, -2]}
 
-# Codes of docs/STUBS.md, with a value, its octets, and the checks, moves, stores and rows that are worked out there.
+# Codes with a value, its octets, and the checks, moves, stores and rows, worked out by hand. docs/STUBS.md shows them.
 WORKED = (
     ("ensure 8\n" + CALLED, {"group": [1, -2]}, "00000001fffffffe", (1, 2, 2, 0)),
     ("ensure 4\n" + COUNT + "ensure_row . 4 0\n" + TURN, ROW, "0000000200000007fffffffe", (2, 3, 3, 0)),
@@ -373,7 +410,7 @@ RECEIVED = "recv pairs\nneed 4\ntake 4\nat 0 count . 1 0 4 be\nend\neach .\nneed
 
 
 def worked_wrong():
-    """What is wrong with the runs that docs/STUBS.md works out."""
+    """What is wrong with the runs that are worked out."""
     for code, value, octets, cost in WORKED:
         told, counts = sent_by(*stubs_of(f"send s\n{code}end\n"), {"id": 0, "remote": 0, "local": 0}, value)
         if (told.hex(), counts) != (octets, cost):
@@ -417,7 +454,8 @@ def checked(rng, interfaces):
         requests = requests_of(back, interfaces)
         assert "".join(map(text_of, stubs_of(text))) == text
         yield back, "whole rows", stubs_wrong(rng, back, interfaces, text)
-        loops = [Stub("recv", request.name, receiving(ENCODINGS[back], request.nodes, request.id, whole=False), []) for request in requests]
+        start = STARTS[ENCODINGS[back]]
+        loops = [Stub("recv", request.name, joined(start, receiving(ENCODINGS[back], request.nodes, request.id, whole=False)), []) for request in requests]
         stubs = [stub for pair in zip(stubs_of(text)[::2], loops) for stub in pair]
         yield back, "loops", stubs_wrong(rng, back, interfaces, "".join(map(text_of, stubs)))
 
@@ -426,7 +464,7 @@ MAKERS = (onc_files, wide_files, long_files, corba_files, mig_files)
 
 
 def rows(seed, files):
-    """The codes that docs/STUBS.md works out, and samples over random files: a name, nothing, and what is wrong."""
+    """The codes that are worked out, and samples over random files: a name, nothing, and what is wrong."""
     yield "codes of docs/STUBS.md", "", "; ".join(worked_wrong())
     for number in range(files):
         rng = random.Random(f"{seed}/{number}")

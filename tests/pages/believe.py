@@ -33,9 +33,7 @@ HEAD = """# What has to be believed
 
 Nobody has to read a proof to rely on Flick: the prover checks them. What has to be read is the statement, and the definitions that its words stand for. `tests/print_docs --write` prints this page: it follows the names in the definitions down from the clauses of `flick`.
 
-Begin with `flick_top/specs/Statement.antt`, which is the whole promise. Then read what you want to be sure of. A definition is believed to mean its comment, and the standard that it names. No proof can check that. The Python model in `tests/model` is a second reading of the same standards, written without these definitions, and `tests/compare` holds the program against it.
-
-You also rely on the prover and the compiler of the toolchain, on the definitions and statements of its `std` and its other ports (`docs/SECURITY.md`), on the C library, and on the last crate, `flick_cli`, which hands the process's words, input, output and files to `flick`.
+Begin with `flick_top/specs/Statement.antt`, which is the whole promise. Then read what you want to be sure of. A definition is believed to mean its comment, and the standard that it names: no proof can check that, but `tests/model` is a second reading, and `tests/compare` holds the program against it. You also rely on what `docs/SECURITY.md` ("Trusted") lists, and on the last crate, `flick_cli`, which hands the process's words and ends to `flick`.
 """
 
 
@@ -109,6 +107,11 @@ def which(path, found):
     return ", ".join(f"`{name}`" for name in names[:NAMES]) + (f", {len(names) - NAMES} more" if len(names) > NAMES else "")
 
 
+def more_of(path, found):
+    """A file of which more is read, with how many definitions."""
+    return f"`{path.removeprefix('crates/')}` ({len(found)})"
+
+
 def table(found, order, titled):
     """The rows of a stage: its files in the order of reading, with their titles where they come first; then what else is read of files that came before."""
     files = {}
@@ -122,8 +125,7 @@ def table(found, order, titled):
         yield f"| `{path.removeprefix('crates/')}` | {title(path)} | {which(path, files[path])} |"
         titled.add(path)
     if again:
-        told = (f"`{path.removeprefix('crates/')}`" + (f" ({which(path, files[path])})" if which(path, files[path]) else "") for path in again)
-        yield from ("", f"More of {', '.join(told)}.")
+        yield from ("", f"More of {', '.join(more_of(path, files[path]) for path in again)}.")
 
 
 def declaring():
@@ -151,7 +153,7 @@ def page():
            "| To believe | Lines to read | Of these in its own table |", "|---|---|---|"]
     out += [f"| {what} | {lines:,} | {lines_of(found):,} |" for what, lines, found in stages]
     out += [f"| the statement: how commands, files, input and output come together | {lines_of(rest):,} | {lines_of(last):,} |", ""]
-    out += ["Each table below has what is not in one above it, each file after those that it uses. Where nothing stands under Read, all of the file is read."]
+    out += ["Each table below has what is not in one above it, each file after those that it uses. Where nothing stands under Read, all of the file is read; of a file that came before, so many more definitions."]
     for what, _, found in stages:
         out += ["", f"## {what[0].upper()}{what[1:]}" if not what.startswith("what") else f"## W{what[1:]}", *table(found, order, titled)]
     out += ["", "## The statement", *table(last, order, titled), "", "## Types", "",

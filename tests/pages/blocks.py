@@ -10,12 +10,24 @@ crates    the crates of crates.txt, each with the first sentence of its README
 words     WORD, USUAL TERM: CRATE NAME || ..: our words, each with the first sentence of the doc line or comment of its definition
 grammar   onc, corba or mig: the rules by which tests/model reads files of the language
 touched   WHAT = NEIGHBOUR || ..: what may be added, and the files of src/ and specs/ that name a thing like it
+variants  CRATE ENUM: LINE = VARIANT || ..: lines of stub code, each with the doc line of its variant
+items     CRATE NAME NAME..: what a crate gives to others, each with the first sentence of its doc line
+head      PATH: what a program of the repository writes of itself
+counts    the counts of bench/run, each with its first line
+limits    the limits that several crates keep
+tools     PATH PATH..: programs of the repository, each with its words and what it does, by the first lines of its own text
+worked    the codes that tests/model runs, with what they send and cost
+vectors   how many vectors there are, by category and back end, and what they ask
+lowered   ENCODING ENCODING..: the code of types over encodings, as tests/model makes it
+stages    BACK FILE OPERATION: the code of a request after each pass, as tests/model makes it
 """
 import functools
 import glob
 import json
 import os
 import re
+import subprocess
+import sys
 
 import sources
 from sources import TOP
@@ -89,10 +101,10 @@ def crates(_):
 
 
 def meaning(crate, name):
-    """The first sentence above a type or a definition of a crate, and its file."""
+    """The first sentence above a type, a function or a definition of a crate, and its file."""
     for path in sorted(glob.glob(f"{TOP}/crates/{crate}/src/**/*.rt", recursive=True)):
         text = sources.sums.content(path)
-        if found := re.search(rf"^pub (?:enum|struct|trait) {name}\b.*", text, re.M):
+        if found := re.search(rf"^pub (?:enum|struct|trait|type|fn) {name}\b.*", text, re.M):
             return sources.sentence(sources.doc_above(text, text[found.start():])), os.path.relpath(path, f"{TOP}/crates")
     for path in sorted(glob.glob(f"{TOP}/crates/{crate}/specs/**/*.antt", recursive=True)):
         for each in sources.definitions(os.path.relpath(path, TOP)):
@@ -144,7 +156,105 @@ def grammar(language):
     return ["```", *re.search(r'^GRAMMAR = """\n(.*?)\n"""', content(f"tests/model/{language}.py"), re.S | re.M)[1].split("\n"), "```"]
 
 
-KINDS = {"words": words, "grammar": grammar, "touched": touched, "usage": usage, "session": session, "octets": octets, "refused": refused, "crates": crates}
+def items(arguments):
+    """What a crate gives to others, each with the first sentence of its doc line."""
+    crate, *names = arguments.split()
+    return [f"- `{name}`: {said[:1].lower() + said[1:]}" for name in names for said in [re.sub(r"\[(`\w+`)\]", r"\1", meaning(crate, name)[0])]]
+
+
+def variants(arguments):
+    where, _, rest = arguments.partition(": ")
+    crate, enum = where.split()
+    texts = (sources.sums.content(path) for path in sorted(glob.glob(f"{TOP}/crates/{crate}/src/**/*.rt", recursive=True)))
+    body = next(found[1] for text in texts if (found := re.search(rf"^pub enum {enum} \{{\n(.*?)\n\}}", text, re.S | re.M)))
+    docs = {name: " ".join(re.findall(r"/// (.*)", doc)) for doc, name in re.findall(r"((?: +///.*\n)+) +(\w+)", body)}
+    lines = ["| Line | What it is |", "|---|---|"]
+    for entry in rest.split(" || "):
+        line, _, variant = entry.rpartition(" = ")
+        lines.append(f"| `{line}` | {docs[variant].rstrip('.')} |")
+    return lines
+
+
+def tools(arguments):
+    rows = []
+    for path in arguments.split():
+        first, more = re.search(r'^"""(.*)\n(.*)', content(path), re.M).groups()
+        what, _, usage = f"{first} {more if more.startswith(path) else ''}".strip().partition(f": {path}")
+        cells = [part.removesuffix('"""').replace("|", "\\|") for part in (path + usage, what)]
+        rows.append(f"| `{cells[0]}` | {cells[1]} |")
+    return ["| Run | What it does |", "|---|---|", *rows]
+
+
+def head(path):
+    return ["```", *re.search(r'^"""(.*?)\n"""', content(path), re.S | re.M)[1].split("\n"), "```"]
+
+
+def counts(_):
+    found = re.findall(r'^def (\w+)\(\):\n    """(.*?)(?:"""|\n)', content("bench/run"), re.M)
+    return ["| Count | What it counts |", "|---|---|", *(f"| `{name}` | {said.rstrip('.')} |" for name, said in found if re.search(rf'\("[\w ]+", {name}, ', content("bench/run")))]
+
+
+def limits(_):
+    text = content("crates/kit_base/src/limits.rt")
+    found = re.findall(r"((?:^/// .*\n)+)pub const \w+: \w+ = ([\d_]+);", text, re.M)
+    return ["| | |", "|---|---|", *(f"| {' '.join(re.findall('/// (.*)', said)).rstrip('.')} | {int(n.replace('_', '')):,} |" for said, n in found)]
+
+
+def of_model(code):
+    """What a program over tests/model writes, which is JSON."""
+    run = subprocess.run([sys.executable, "-B", "-c", f"import json, sys; sys.path.insert(0, {TOP + '/tests/model'!r}); {code}"], check=True, capture_output=True, text=True)
+    return json.loads(run.stdout)
+
+
+def in_line(text):
+    """Stub code on one line: what has a body or puts with braces, and long octets cut."""
+    done = []
+    for line in text.splitlines():
+        line = re.sub(r"(const [0-9a-f]{8})[0-9a-f]+", r"\1..", line)
+        if line == "end":
+            done[-1] = done[-1].rstrip(";")
+        done.append("}" if line == "end" else f"{line} {{" if re.match(r"(chunk|take|each|switch|some|sub)\b", line) else f"{line}:" if re.match(r"case|default", line) else f"{line};")
+    return " ".join(done).rstrip(";")
+
+
+def worked(_):
+    rows = of_model("import stub_samples; print(json.dumps(stub_samples.WORKED))")
+    return ["| Code | Value | Octets | Checks, moves, stores, rows |", "|---|---|---|---|",
+            *(f"| `{in_line(code)}` | `{json.dumps(value, separators=(',', ':'))}` | `{in_words(octets)}` | {', '.join(map(str, cost))} |" for code, value, octets, cost in rows)]
+
+
+CATEGORIES = {"values": "values, both ways", "limits": "limits of each form, and one beyond", "heads": "heads, refused", "bodies": "bodies, refused",
+              "trailing": "trailing octets", "replies": "replies", "choices": "choices of senders", "open": "open"}
+
+
+def vectors(_):
+    backs = sorted(os.path.basename(path) for path in glob.glob(f"{TOP}/vectors/*") if glob.glob(f"{path}/*.jsonl"))
+    paths = {(name, back): f"vectors/{back}/{name}.jsonl" for name in CATEGORIES for back in backs}
+    rows = {key: [json.loads(line) for line in content(path).split("\n") if line] if os.path.exists(f"{TOP}/{path}") else [] for key, path in paths.items()}
+    other = {os.path.basename(path).split(".")[0] for path in glob.glob(f"{TOP}/vectors/*/*.jsonl")} - {*CATEGORIES}
+    if other:
+        raise SystemExit(f"tests/pages/blocks.py has no words for the category {min(other)}")
+    asked = {key: sum(1 if "refused" in row or row.get("way") == "read" else 2 for row in found) for key, found in rows.items()}
+    table = [(said, *(len(rows[name, back]) for back in backs), sum(asked[name, back] for back in backs)) for name, said in CATEGORIES.items()]
+    table.append(("all", *(sum(column) for column in list(zip(*table))[1:])))
+    return [f"| Category | {' | '.join(backs)} | Answers |", "|---" * (len(backs) + 2) + "|",
+            *(f"| {said} | {' | '.join(f'{n:,}' for n in numbers)} |" for said, *numbers in table)]
+
+
+def lowered(arguments):
+    encodings = arguments.split()
+    rows = of_model(f"import stub_samples; print(json.dumps(stub_samples.texts_of_lowered({encodings!r})))")
+    return [f"| Type | {' | '.join(f'`{each}`' for each in encodings)} |", "|---" * (len(encodings) + 1) + "|",
+            *(f"| `{said}` | {' | '.join(f'`{in_line(text)}`' for text in texts)} |" for said, texts in rows)]
+
+
+def stages(arguments):
+    back, file, operation = arguments.split()
+    rows = of_model(f"import stub_samples; print(json.dumps(stub_samples.texts_of_stages({back!r}, open({TOP + '/' + file!r}).read(), {operation!r})))")
+    return ["| After | Code |", "|---|---|", *(f"| `{what}` | `{in_line(text)}` |" for what, text in rows)]
+
+
+KINDS = {"head": head, "counts": counts, "limits": limits, "lowered": lowered, "tools": tools, "vectors": vectors, "items": items, "variants": variants, "worked": worked, "stages": stages, "words": words, "grammar": grammar, "touched": touched, "usage": usage, "session": session, "octets": octets, "refused": refused, "crates": crates}
 
 
 def page(written):
@@ -153,5 +263,6 @@ def page(written):
 
 
 def pages():
-    """The pages of docs/ that have blocks."""
-    return [name.removesuffix(".md") for name in sorted(os.listdir(f"{TOP}/docs")) if name.endswith(".md") and BLOCK.search(content(f"docs/{name}"))]
+    """The READMEs and the pages of docs/ that have blocks, by their paths without ending."""
+    paths = ["README.md", *sorted([*glob.glob("docs/*.md", root_dir=TOP), *glob.glob("crates/*/README.md", root_dir=TOP)])]
+    return [path.removesuffix(".md") for path in paths if BLOCK.search(content(path))]

@@ -9,21 +9,19 @@ from sources import TOP
 
 LANGUAGES = {"onc": "ONC", "corba": "CORBA", "mig": "MIG"}
 MOST, FEW = 2, 1  # rows of files, of one language or of each; explained lines
+ALL = ("cdr-be", "cdr-le", "mach", "xdr")
 SHORT = 7  # words of a doc line that says too little alone
 LONGEST = 64  # characters of a text that is shown
 HEAD = """# What the program says when it refuses
 
-A file is refused with one line that begins with `?`, and status 3. The first fault of the file is reported. A line of the input is refused with one line that begins with `!`. The lines after it are still answered, and the status at the end is 1. `docs/COMMANDS.md` ("Status") gives the cause of each status.
-
-AT is the place of an octet, counted from 0. LINE is a line of the file and DECL a declaration, both counted from 1, declarations in the order in which they begin. `docs/COMMANDS.md` ("FRONT") defines a declaration in each language.
-
-`./explain` shows more. With the words of the run, and what it wrote on standard input, it gives file, line, column and name of a `?`. With `--lines INPUT` it also gives the path of the first misfit after `! value`, the field and octets after `! body`, and after `? replies LINE` what is wrong with the line of REPLIES (`docs/COMMANDS.md`).
+A file is refused with one line that begins with `?`, its first fault, and status 3. A line of the input is refused with one line that begins with `!`; those after it are still answered, and the status at the end is 1. AT is the place of an octet, from 0; LINE is a line and DECL a declaration of FILE, from 1 (`docs/COMMANDS.md`, "FRONT"). `./explain` shows the place, the name, the path or the octets (`docs/COMMANDS.md`).
 
 `tests/print_docs --write` prints this page. An entry begins with the doc line of the variant in the code; its examples are rows of `tests/explain`, `tests/files` and `tests/lines`, which have more of them.
 """
 # Sentences of what no variant stands for; and what is worth knowing besides.
 SAID = {"! long": "The line is above its limit and was not read, or its message would be above the limit.", "! json": "The line is not JSON.", "! hex": "",
-        "? syntax": "The definition that begins on line LINE has no tree.", "? replies": "Line LINE of the file, counted from 1 over all lines, gives no reply."}
+        "? syntax": "The definition that begins on line LINE has no tree.", "? replies": "Line LINE of the file, counted from 1 over all lines, gives no reply.",
+        "! frame Cut": "The stream ends within a message."}
 BESIDES = {
     "? lex Directive": "`./bring-in` runs `cpp` over the file, and lists each step (`docs/FILES.md`).",
     "? name Unknown": "`./bring-in` declares names of C headers, and moves declarations up (`docs/FILES.md`). In a CORBA file a name of another module wants its scope, as in `M::name`.",
@@ -44,7 +42,7 @@ RECORDS = (("! long", "", "", ""), ("! json", "", "", ""), ("! request", "record
            ("! head", "record", "Head", ""), ("! value", "record", "Shape", ""))
 # The enums of the program, each by its crate and a variant that it has.
 ENUMS = {"lex": ("idl_lex", "OpenComment"), "name": ("aoi", "CaseClash"), "bind": ("pres", "Heavy"), "head": ("wire_def", "Magic"), "body": ("wire_def", "OverBound"),
-         "saying": ("flick_top", "WrongReply"), "record": ("json_shape", "Op"), "message": ("flick_engine", "NoInterface")}
+         "saying": ("flick_top", "WrongReply"), "record": ("json_shape", "Op"), "message": ("flick_engine", "NoInterface"), "frame": ("wire_frames", "TooLong")}
 
 
 def variants(enum):
@@ -148,7 +146,7 @@ def told_files():
 
 def line_examples():
     """The lines that are refused, by answer and command: what the rows are called; and by answer the back ends."""
-    found, backs = {}, {}
+    found, backs = {}, refused_over()
     for _, table in rows("lines/*.json"):
         for row in table["rows"]:
             answer = row.get("answer")
@@ -159,6 +157,17 @@ def line_examples():
                 if name not in names and not re.search(r"\bbefore\b", name):
                     names.append(name)
     return found, backs
+
+
+def refused_over():
+    """The words of the head and body faults of vectors/, with the back ends whose vectors have them."""
+    backs = {}
+    for path in sorted(glob.glob(f"{TOP}/vectors/*/*.jsonl")):
+        with open(path, encoding="utf-8") as file:
+            for line in file:
+                if found := re.search(r'"refused": ?"((?:head|body) \w+)', line):
+                    backs.setdefault(f"! {found[1]}", set()).add(os.path.basename(os.path.dirname(path)))
+    return backs
 
 
 def chosen(pairs, few):
@@ -183,8 +192,8 @@ class Page:
         if len(doc.split()) < SHORT or len(found) > 1:
             told.update(dict.fromkeys(whole(each["why"]) for each in found))
         told.update(dict.fromkeys([BESIDES[answer]] if answer in BESIDES else []))
-        if answer.startswith(("! head ", "! body ")) and answer in self.backs:
-            told[f"It comes over {', '.join(f'`{back}`' for back in sorted(self.backs[answer]))}."] = None
+        if answer.startswith(("! head ", "! body ")) and len(self.backs.get(answer, ALL)) < len(ALL):
+            told[f"It comes over {', '.join(f'`{back}`' for back in sorted(self.backs[answer]))} alone."] = None
         yield from ("", f"### `{f'{answer} {place}'.strip()}`", "", " ".join(told))
         listed = [*self.examples(answer)]
         helps = "; ".join(dict.fromkeys(each["repair"].rstrip(".") for each in found))
@@ -200,7 +209,7 @@ class Page:
             yield f"- {shown}{where}: {text}."
         names = [f"{names[0]} (`{command}`)" for command, names in self.lines.get(answer, {}).items() if names]
         if names and not said:
-            yield f"- Rows: {'; '.join(names)}."
+            yield f"- Rows: {'; '.join(names[:MOST])}."
 
 
 def group(out, page, heading, entries, first=()):
@@ -239,4 +248,7 @@ def page():
     entries += [("! trailing", "AT", message["Trailing"], refusals("TRAILING"))]
     group(out, page, "A message is refused (`unmarshal`, `unreply`, `serve`)", entries, [
         f"Of a head: {page.causes['refusals', 'HEAD_OTHER']['repair']}"])
+    entries = [(f"! frame {word}", "", doc, page.of_word("frame_cause", word)) for word, doc in variants("frame").items()]
+    entries += [("! frame Cut", "", SAID["! frame Cut"], page.of_word("frame_cause", "Cut"))]
+    group(out, page, "A stream is refused (`unpipe`)", entries, ["It is the last line: nothing more is read. The messages before it are answered."])
     return "\n".join(out) + "\n"

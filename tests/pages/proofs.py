@@ -8,7 +8,7 @@ from sources import TOP, sums
 
 HEAD = """# What is proved, and what shows its teeth
 
-`tests/print_docs --write` prints this page from the sources. It has the laws, and the calls that another crate makes, where there is more to say than a doc line: the comments of the definitions that their clauses cite, each once, or a bug. A law is a function that does nothing and promises a fact. Names of clauses mean the same everywhere (`docs/CONTRIBUTING.md`, "Names of clauses").
+`tests/print_docs --write` prints this page from the sources. It has the laws, and the calls that another crate makes, where there is more to say than a doc line: the comments of the definitions that their clauses cite, each once on this page, or clauses with names, and a bug. A law is a function that does nothing and promises a fact. Names of clauses mean the same everywhere (`docs/CONTRIBUTING.md`, "Names of clauses").
 
 - **Refused** is a bug of `tests/bugs`, with the clause that it breaks where that is known, and how many more there are. The prover refused it when it was last tried, which may be before the code around it changed (`tests/names --bugs`); "not tried since" has no such mark. **Inside** are bugs of functions that no row has.
 - **An edit** stands in `must-fail/` of its crate, and the gate tries it each time.
@@ -35,6 +35,7 @@ COMMON = ("NoneFell", "Gives")  # definitions that many clauses cite, which docs
 SHOWN = 1  # bugs of a row
 MORE = 1  # bugs of functions inside a crate
 DEFINED = 2  # bugs of definitions
+LONG = 8  # words of what is not told again
 
 
 def cell(text):
@@ -56,9 +57,9 @@ def promised(call, doc, told):
     shown, is_told = [], False
     for name, term, _ in call.clauses:
         definition = head_of(call, term)
-        is_new = definition and definition.comment and definition.name not in told
+        is_new = definition and definition.comment and definition.name not in COMMON and definition.comment not in told
         is_told = is_told or is_new
-        told.update([definition.name] if is_new else [])
+        told.update([definition.comment] if is_new else [])
         comment = definition.comment if is_new else ""
         shown.append(f"`{name}`: {comment}" if name and comment else f"`{name}`" if name else comment)
     shown = [each for each in shown if each]
@@ -68,8 +69,9 @@ def promised(call, doc, told):
 
 
 def says_something(call, by):
-    """Whether a row of a call says more than its doc line and the names of its clauses."""
-    return call.is_law or (call.owner, call.name) in by or is_top(call) or any(
+    """Whether a row of a call says more than its doc line."""
+    named = any(name for name, _, _ in call.clauses)
+    return call.is_law or named and (call.owner, call.name) in by or is_top(call) or any(
         (each := head_of(call, term)) and each.comment and each.name not in COMMON for _, term, _ in call.clauses)
 
 
@@ -122,7 +124,7 @@ def others(crate):
         yield f'Accepted: "{bug["bug"]}": {sources.sentence(bug["passes"])}.'
     untried = [bug for bug in sums.bugs_of(crate) if not bug.get("refused") and "passes" not in bug]
     if untried:
-        yield f"Not tried since: {', '.join(map(quoted, untried))}."
+        yield f"Not tried since: {len(untried)}."
 
 
 def head_of(call, term):
@@ -178,14 +180,14 @@ def is_top(call):
     return (call.crate, call.name) == TOP_CALL
 
 
-def section(crate):
-    """The section of a crate, or nothing where it promises nothing to others."""
+def section(crate, told_of, docs):
+    """The section of a crate, or nothing where it promises nothing to others; with what the sections before it told."""
     calls = [call for call in sources.calls(crate) if sources.is_given(call) and (call.is_law or sources.is_used(call))]
     if crate == TOP_CALL[0]:
         calls = [call for call in sources.calls(crate) if is_top(call) or call.is_law and sources.is_given(call)]
     if not calls:
         return
-    by, top, told_of = bugs_by_call(crate), None, {*COMMON}
+    by, top = bugs_by_call(crate), None
     calls = [call for call in calls if says_something(call, by)]
     notes = [*inside(by, {(call.owner, call.name) for call in calls}), *of_definitions(crate), *others(crate)]
     if not calls and not notes:
@@ -196,7 +198,10 @@ def section(crate):
     for call in calls:
         doc = re.sub(r"^Does nothing\. (It states that|States that|It says that)?", "", call.doc).strip()
         doc = re.sub(r"\[(`\w+`)\]", r"\1", doc[:1].upper() + doc[1:])
-        yield f"| `{call.shown()}` | {cell(promised(call, sources.sentence(doc), told_of))} | {cell(told(by.get((call.owner, call.name), [])))} |"
+        said = promised(call, sources.sentence(doc), told_of)
+        before = docs.setdefault(said, crate)
+        said = said if before == crate or len(said.split()) < LONG else f"As of `{before}`"
+        yield f"| `{call.shown()}` | {cell(said)} | {cell(told(by.get((call.owner, call.name), [])))} |"
         top = call if is_top(call) else top
     if top:
         yield from top_table(top)
@@ -207,7 +212,8 @@ def section(crate):
 
 def page():
     order = [name for _, names in reversed(sources.crates()) for name in names]
-    return HEAD + WHATEVER + "".join(f"{line}\n" for crate in order for line in section(crate))
+    told_of, docs = set(), {}
+    return HEAD + WHATEVER + "".join(f"{line}\n" for crate in order for line in section(crate, told_of, docs))
 
 
 def wrong_clauses():

@@ -1,5 +1,5 @@
 -- A head as chunks appends its octets.
-use Rattle.std.proofs.Common.{◌≡◌, ℕ, ◌-◌, ◌≤◌, ◌<◌, pos, List, [], ◌∷◌, ◌++◌, length, take, drop, Some, refl, sym, ap, subst, ◌∙◌, arith}
+use Rattle.std.proofs.Common.{◌≡◌, ℕ, ◌+◌, ◌-◌, ◌≤◌, ◌<◌, pos, List, [], ◌∷◌, ◌++◌, length, take, drop, Some, refl, sym, ap, subst, ◌∙◌, arith}
 use Rattle.std.specs.Prelude.{Option, Result, Ok, Err, IfOk, nat_lt}
 use Rattle.std.proofs.lemmas.Bool.{lt-ltb}
 use Rattle.std.proofs.lemmas.List.{length-take, length-drop}
@@ -26,14 +26,14 @@ use Rattle.giop_head.specs.Printed.{long_octets}
 use Rattle.back_cdr.specs.Coded.{IsCoded, with_id}
 
 -- three operations as chunks
-pub three_seen : (a b c : SendOp) (r : Order) (octets x y : List ℕ) → 20 ≤ length octets → x ≡ take 16 octets
-    → y ≡ drop 20 octets → op_seen a ≡ chunk (length x) (put.Const 0 x ∷ [])
+pub three_seen : (a b c : SendOp) (r : Order) (place : ℕ) (octets x y : List ℕ) → place + 4 ≤ length octets → x ≡ take place octets
+    → y ≡ drop (place + 4) octets → op_seen a ≡ chunk (length x) (put.Const 0 x ∷ [])
     → op_seen b ≡ chunk 4 (put.Head 0 Id 4 r ∷ []) → op_seen c ≡ chunk (length y) (put.Const 0 y ∷ [])
-    → code_seen (a ∷ b ∷ c ∷ []) ≡ chunk 16 (put.Const 0 (take 16 octets) ∷ [])
-    (chunk 4 (put.Head 0 Id 4 r ∷ []) (chunk (length octets - 20) (put.Const 0 (drop 20 octets) ∷ []) stop))
-three_seen a b c r octets x y long front rest sa sb sc =
-    let first : length (take 16 octets) ≡ 16 = omega (arith, length-take 16 octets, long) in
-    let last : length (drop 20 octets) ≡ length octets - 20 = length-drop 20 octets in
+    → code_seen (a ∷ b ∷ c ∷ []) ≡ chunk place (put.Const 0 (take place octets) ∷ [])
+    (chunk 4 (put.Head 0 Id 4 r ∷ []) (chunk (length octets - (place + 4)) (put.Const 0 (drop (place + 4) octets) ∷ []) stop))
+three_seen a b c r place octets x y long front rest sa sb sc =
+    let first : length (take place octets) ≡ place = omega (arith, length-take place octets, long) in
+    let last : length (drop (place + 4) octets) ≡ length octets - (place + 4) = length-drop (place + 4) octets in
     rw (sa, sb, sc, front, rest, first, last) refl
 
 pub ruleset coding = (seen-Chunk)
@@ -64,24 +64,26 @@ three_lead : (c : Calls) (h : Head) (v : Val) (p : ℕ) (r : Order) (a b : List 
     ≡ Some (a ++ long_octets r h.id ++ b)
 three_lead c h v p r a b m n fits first last = rw (filled_const h v m a first, filled_id r h v fits, filled_const h v n b last) refl
 
-coded_leads : (r : Order) (octets : List ℕ) (code : SendCode) → 20 ≤ length octets → IsCoded r octets code
-    → Leads (λ h. with_id r octets h.id) code
-coded_leads r octets code long is h v p fits =
-    subst (λ (b : Block). on_some (steps (calls_of code.subs h deepest) h b v) (wrote p []) ≡ Some (with_id r octets h.id)) (sym is)
-    (three_lead (calls_of code.subs h deepest) h v p r (take 16 octets) (drop 20 octets) 16 (length octets - 20) fits.id
-    (omega (arith, length-take 16 octets, long)) (omega (arith, length-drop 20 octets)))
+coded_leads : (r : Order) (place : ℕ) (octets : List ℕ) (code : SendCode) → place + 4 ≤ length octets → IsCoded r place octets code
+    → Leads (λ h. with_id r place octets h.id) code
+coded_leads r place octets code long is h v p fits =
+    subst (λ (b : Block). on_some (steps (calls_of code.subs h deepest) h b v) (wrote p []) ≡ Some (with_id r place octets h.id)) (sym is)
+    (three_lead (calls_of code.subs h deepest) h v p r (take place octets) (drop (place + 4) octets) place (length octets - (place + 4))
+    fits.id (omega (arith, length-take place octets, long)) (omega (arith, length-drop (place + 4) octets)))
 
-coded_chunks : (r : Order) (octets : List ℕ) (code : SendCode) → IsCoded r octets code → AreChunks code
-coded_chunks r octets code is = (3, rw is refl, omega arith)
+coded_chunks : (r : Order) (place : ℕ) (octets : List ℕ) (code : SendCode) → IsCoded r place octets code → AreChunks code
+coded_chunks r place octets code is = (3, rw is refl, omega arith)
 
-pub leads_made : (d : Result SendCode NoMemory) (r : Order) (octets : List ℕ) → 20 ≤ length octets → IfOk d (λ code. IsCoded r octets code)
-    → IfOk d (λ code. Leads (λ h. with_id r octets h.id) code)
-leads_made (Ok code) r octets long is = coded_leads r octets code long is
-leads_made (Err e) r octets long is = tt
+pub leads_made : (d : Result SendCode NoMemory) (r : Order) (place : ℕ) (octets : List ℕ) → place + 4 ≤ length octets
+    → IfOk d (λ code. IsCoded r place octets code)
+    → IfOk d (λ code. Leads (λ h. with_id r place octets h.id) code)
+leads_made (Ok code) r place octets long is = coded_leads r place octets code long is
+leads_made (Err e) r place octets long is = tt
 
-pub chunks_made : (d : Result SendCode NoMemory) (r : Order) (octets : List ℕ) → IfOk d (λ code. IsCoded r octets code) → IfOk d AreChunks
-chunks_made (Ok code) r octets is = coded_chunks r octets code is
-chunks_made (Err e) r octets is = tt
+pub chunks_made : (d : Result SendCode NoMemory) (r : Order) (place : ℕ) (octets : List ℕ)
+    → IfOk d (λ code. IsCoded r place octets code) → IfOk d AreChunks
+chunks_made (Ok code) r place octets is = coded_chunks r place octets code is
+chunks_made (Err e) r place octets is = tt
 
 code_along : (code : SendCode) (f g : ℕ → List ℕ) → ((id : ℕ) → f id ≡ g id) → Leads (λ h. f h.id) code → Leads (λ h. g h.id) code
 code_along code f g same leads h v p fits = leads h v p fits ∙ ap (λ (o : List ℕ). Some o) (same h.id)

@@ -20,3 +20,5 @@ pub mod Named
 pub mod Picking
 -- * An exception that is found among those that are kept is the one that a reply tells, by induction on the interfaces
 pub mod Raising
+-- * A head is sent as one that a body follows exactly where octets follow it
+pub mod Following

@@ -1,13 +1,16 @@
 -- The operation that a request names is there, and is the one of its name, of the interface whose name is the key.
-use Rattle.std.proofs.Common.{◌≡◌, ◌+◌, ℕ, List, length, sym, ap, ◌∙◌}
+use Rattle.std.proofs.Common.{◌≡◌, ◌+◌, ℕ, List, length, sym, ap, subst, ◌∙◌}
 use Rattle.std.proofs.lemmas.Slice.Eq.{bytes_eq-Decides}
 use Rattle.aoi.specs.Plain.{PlainInterface}
 use Rattle.wire_def.specs.declared.encoding.Encoding.{Encoding}
+use Rattle.head_kit.specs.declared.called.Called.{Called}
 use Rattle.head_kit.specs.declared.called.Naming.{Naming}
 use Rattle.head_kit.specs.Calls.{IsBelow}
 use Rattle.head_kit.proofs.Named as kit
+use Rattle.giop_head.specs.Header.{IsMinor}
 use Rattle.giop_head.specs.Items.{laid}
 use Rattle.giop_head.specs.Reported.{ReportedRequest, BeginsRequest}
+use Rattle.giop_head.proofs.Ways.{minor_of_request}
 use Rattle.pres.specs.Bindings.{Binding}
 use Rattle.back_cdr.specs.Targets.{Target, ops_of, no_target, target_in, targets}
 use Rattle.back_cdr.specs.Seeking.{has_key, has_name, named_from, named, Calls}
@@ -26,10 +29,14 @@ named_right b t op e =
 
 -- what a head says of which the request was read, and what it names was found
 pub says : (b : Binding) (o : List ℕ) (t : ReportedRequest) (n : Naming) (e : Encoding) → BeginsRequest o t → n ≡ named b t
-    → e ≡ laid t.head.order → Calls b o (record { naming = n; head = t.head; encoding = e; used = t.used })
+    → e ≡ laid t.head.order → Calls b o (record { naming = n; head = t.head; encoding = e; used = t.used; minor = t.minor })
 says b o t n e begins names lies = (
   t,
   begins,
-  ap (λ (x : Naming). record { naming = x; head = t.head; encoding = laid t.head.order; used = t.used }) (sym names)
-      ∙ ap (λ (x : Encoding). record { naming = n; head = t.head; encoding = x; used = t.used }) (sym lies),
+  ap (λ (x : Naming). record { naming = x; head = t.head; encoding = laid t.head.order; used = t.used; minor = t.minor }) (sym names)
+      ∙ ap (λ (x : Encoding). record { naming = n; head = t.head; encoding = x; used = t.used; minor = t.minor }) (sym lies),
 )
+
+-- what a head says has the minor number of a version that is read
+pub minor_called : (b : Binding) (o : List ℕ) (c : Called) → Calls b o c → IsMinor c.minor
+minor_called b o c (t, begins, same) = subst (λ (x : Called). IsMinor x.minor) same (minor_of_request o t begins)

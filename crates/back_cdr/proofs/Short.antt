@@ -1,5 +1,5 @@
 -- No name of a bound unit is too long, by induction on the interfaces; so a head has fewer than 2^32 octets.
-use Rattle.std.proofs.Common.{◌≡◌, false, ℕ, zero, suc, ◌+◌, ◌≤◌, ◌<◌, List, [], ◌∷◌, ◌++◌, map, length, get_or, replicate, refl, ap, arith, length-append}
+use Rattle.std.proofs.Common.{◌≡◌, Bool, true, false, ℕ, zero, suc, ◌+◌, ◌≤◌, ◌<◌, List, [], ◌∷◌, ◌++◌, map, length, get_or, replicate, refl, ap, arith, length-append}
 use Rattle.std.specs.Prelude.{slice_index_or}
 use Rattle.std.specs.List.{list_any, AllByRecursion}
 use Rattle.std.proofs.lemmas.Bool.{ltb-false}
@@ -12,7 +12,7 @@ use Rattle.aoi.specs.declared.interfaces.Operation.{Operation}
 use Rattle.aoi.specs.Plain.{PlainRaise, PlainInterface, PlainOperation, plain_interface, plain_operation}
 use Rattle.giop_head.specs.Call.{Request}
 use Rattle.giop_head.specs.Items.{flag}
-use Rattle.giop_head.specs.Printed.{long_octets, then_long, then_sequence, then_string, header_octets, request_octets, status_octets}
+use Rattle.giop_head.specs.Printed.{long_octets, short_octets, then_long, then_short, then_sequence, then_string, header_octets, then_first, then_last, response_flags, then_wants, then_target, then_close, then_gap, begun_octets, request_octets, status_octets}
 use Rattle.pres.specs.Bindings.{Binding, IsBinding}
 use Rattle.pres.specs.Faults.{is_long, has_long, has_long_in}
 use Rattle.pres.proofs.Rises.{neither}
@@ -85,6 +85,10 @@ long_four : (r : Order) (n : ℕ) → length (long_octets r n) ≡ 4
 long_four Big n = refl
 long_four Little n = refl
 
+long_two : (r : Order) (n : ℕ) → length (short_octets r n) ≡ 2
+long_two Big n = refl
+long_two Little n = refl
+
 gap_below : (n : ℕ) → gap n 4 ≤ 3
 gap_below n = omega arith
 
@@ -111,35 +115,82 @@ most_string r s o =
       most_long r (suc (length s)) o,
     )
 
-most_request : (r : Order) (q : Request) → length (request_octets r q) ≤ length q.key + length q.name + 49
-unfolding request_octets
-most_request r q =
-    let a : List ℕ = then_long r 0 (header_octets r 0) in
-    let b : List ℕ = then_long r q.id a in
-    let c : List ℕ = b ++ (flag q.wants ∷ []) in
-    let d : List ℕ = then_sequence r q.key c in
-    let e : List ℕ = then_string r q.name d in
+most_short : (r : Order) (n : ℕ) (o : List ℕ) → length (then_short r n o) ≤ length o + 3
+most_short r n o =
     omega (
       arith,
-      most_long r 0 (header_octets r 0),
-      most_long r q.id a,
-      length-append b (flag q.wants ∷ []),
-      most_sequence r q.key c,
-      most_string r q.name d,
-      most_sequence r [] e,
+      length-append (o ++ replicate (gap (length o) 2) 0) (short_octets r n),
+      length-append o (replicate (gap (length o) 2) 0),
+      length-replicate {A = ℕ} (gap (length o) 2) 0,
+      long_two r n,
     )
 
-most_status : (r : Order) (id status : ℕ) → length (status_octets r id status) ≤ 33
-most_status r id status =
-    let a : List ℕ = then_long r 0 (header_octets r 1) in
+-- ---- what differs between versions
+
+most_first : (m : ℕ) (r : Order) (o : List ℕ) → length (then_first m r o) ≤ length o + 7
+most_first zero r o = most_long r 0 o
+most_first (suc m) r o = omega arith
+
+most_last : (m : ℕ) (r : Order) (o : List ℕ) → length (then_last m r o) ≤ length o + 7
+most_last zero r o = omega arith
+most_last (suc m) r o = most_long r 0 o
+
+most_wants : (m : ℕ) (b : Bool) (o : List ℕ) → length (then_wants m b o) ≤ length o + 4
+most_wants zero b o = omega (arith, length-append o (flag b ∷ []))
+most_wants (suc m) b o = omega (arith, length-append o (response_flags b ∷ 0 ∷ 0 ∷ 0 ∷ []))
+
+most_target : (m : ℕ) (r : Order) (o : List ℕ) → length (then_target m r o) ≤ length o + 3
+most_target zero r o = omega arith
+most_target (suc m) r o = most_short r 0 o
+
+most_close : (m : ℕ) (r : Order) (o : List ℕ) → length (then_close m r o) ≤ length o + 7
+most_close zero r o = omega (arith, most_sequence r [] o)
+most_close (suc m) r o = most_long r 0 o
+
+most_gap : (m : ℕ) (body : Bool) (o : List ℕ) → length (then_gap m body o) ≤ length o + 7
+most_gap zero body o = omega arith
+most_gap (suc m) true o =
+    let many : gap (length o) 8 ≤ 7 = omega arith in
+    omega (arith, length-append o (replicate (gap (length o) 8) 0), length-replicate {A = ℕ} (gap (length o) 8) 0, many)
+most_gap (suc m) false o = omega arith
+
+-- ---- whole heads
+
+most_begun : (m : ℕ) (r : Order) (id : ℕ) (wants : Bool) → length (begun_octets m r id wants) ≤ 33
+most_begun m r id wants =
+    let a : List ℕ = then_first m r (header_octets m r 0) in
     let b : List ℕ = then_long r id a in
-    omega (arith, most_long r 0 (header_octets r 1), most_long r id a, most_long r status b)
+    let c : List ℕ = then_wants m wants b in
+    omega (arith, most_first m r (header_octets m r 0), most_long r id a, most_wants m wants b, most_target m r c)
 
-pub call_few : (r : Order) (t : Target) (id : ℕ) → HasShortNames t → length (lead r t id) < 4294967296
-call_few r t id h =
-    omega (arith, most_request r (record { id = id; wants = t.wants; key = t.key; name = t.name }), h.key, h.name)
+most_request : (m : ℕ) (body : Bool) (r : Order) (q : Request) → length (request_octets m body r q) ≤ length q.key + length q.name + 62
+unfolding request_octets
+most_request m body r q =
+    let a : List ℕ = begun_octets m r q.id q.wants in
+    let b : List ℕ = then_sequence r q.key a in
+    let c : List ℕ = then_string r q.name b in
+    let d : List ℕ = then_close m r c in
+    omega (
+      arith,
+      most_begun m r q.id q.wants,
+      most_sequence r q.key a,
+      most_string r q.name b,
+      most_close m r c,
+      most_gap m body d,
+    )
 
-pub reply_few : (r : Order) (t : Target) (arm id : ℕ) → HasShortNames t → length (reply_lead r t arm id) < 4294967296
-reply_few r t zero id h = omega (arith, most_status r id 0)
-reply_few r t (suc k) id h =
-    omega (arith, most_string r (slice_index_or t.ids k []) (status_octets r id 1), most_status r id 1, id_short t k h)
+most_status : (m : ℕ) (r : Order) (id status : ℕ) → length (status_octets m r id status) ≤ 40
+most_status m r id status =
+    let a : List ℕ = then_first m r (header_octets m r 1) in
+    let b : List ℕ = then_long r id a in
+    let c : List ℕ = then_long r status b in
+    omega (arith, most_first m r (header_octets m r 1), most_long r id a, most_long r status b, most_last m r c)
+
+pub call_few : (m : ℕ) (body : Bool) (r : Order) (t : Target) (id : ℕ) → HasShortNames t → length (lead m body r t id) < 4294967296
+call_few m body r t id h =
+    omega (arith, most_request m body r (record { id = id; wants = t.wants; key = t.key; name = t.name }), h.key, h.name)
+
+pub reply_few : (m : ℕ) (r : Order) (t : Target) (arm id : ℕ) → HasShortNames t → length (reply_lead m r t arm id) < 4294967296
+reply_few m r t zero id h = omega (arith, most_status m r id 0)
+reply_few m r t (suc k) id h =
+    omega (arith, most_string r (slice_index_or t.ids k []) (status_octets m r id 1), most_status m r id 1, id_short t k h)

@@ -29,7 +29,7 @@ named b t = named_from 0 b.unit.interfaces t.key t.name
 
 -- what the head of a request says: its body lies in the order of its message
 abbrev pub called : Binding → ReportedRequest → Called
-called b t = record { naming = named b t; head = t.head; encoding = laid t.head.order; used = t.used }
+called b t = record { naming = named b t; head = t.head; encoding = laid t.head.order; used = t.used; minor = t.minor }
 
 -- a message begins with the head of a request that says this
 abbrev pub Calls : Binding → List ℕ → Called → Type 0

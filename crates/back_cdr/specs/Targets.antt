@@ -7,6 +7,9 @@ use Rattle.wire_def.specs.declared.encoding.Back.TheVariants as back
 use Rattle.wire_def.specs.declared.head.Order.{Order}
 use Rattle.wire_def.specs.declared.head.Order.TheVariants.{Big, Little}
 use Rattle.aoi.specs.Plain.{PlainRaise, PlainInterface, PlainOperation}
+use Rattle.mint.specs.Types.{Ty, type_at}
+use Rattle.wire_def.specs.Hollow.{is_hollow}
+use Rattle.pres.specs.declared.ops.Op.{Op}
 use Rattle.pres.specs.Bindings.{Binding}
 use Rattle.pres.specs.Offers.{is_cdr}
 use Rattle.std.specs.Prelude.{IsTrue}
@@ -41,6 +44,14 @@ no_target = record { key = []; name = []; wants = true; ids = [] }
 -- the target of an operation
 abbrev pub target_of : Binding → ℕ → Target
 target_of b op = slice_index_or (targets b.unit.interfaces) op no_target
+
+-- the type of what follows the head of an operation's requests
+abbrev pub body_type : Binding → ℕ → Ty
+body_type b op = type_at b.nodes (slice_index_or (map (λ (o : Op). o.request) b.ops) op 0)
+
+-- whether octets follow that head: a type has some in all its values, or in none
+abbrev pub has_body : Binding → ℕ → Bool
+has_body b op = not (is_hollow (body_type b op))
 
 -- a name that is not too long
 abbrev pub IsShort : List ℕ → Type 0

@@ -1,15 +1,17 @@
 //! The heads that are sent, as code.
 
-ghost use Rattle.std.specs.Prelude.{◌≡◌, ◌<◌, ◌≤◌, ◌^◌, ◌∷◌, [], length, take, drop, IfOk};
+ghost use Rattle.std.specs.Prelude.{◌≡◌, ◌+◌, ◌<◌, ◌≤◌, ◌^◌, ◌∷◌, [], length, take, drop, IfOk};
 ghost use Rattle.cast_stub.specs.Block.{chunk, op_seen, patch};
 ghost use Rattle.cast_stub.specs.declared.put.Put.TheVariants as put;
 ghost use Rattle.cast_stub.specs.declared.put.HeadField.TheVariants.{Id};
 ghost use Rattle.stub_lower.specs.Leads.{Leads, AreChunks};
-ghost use Rattle.back_cdr.specs.Coded.{IsCoded, with_id};
+ghost use Rattle.giop_head.specs.Header.{IsMinor};
+ghost use Rattle.back_cdr.specs.Coded.{IsCoded, id_place, with_id};
 ghost use Rattle.back_cdr.specs.Leads.{lead, reply_lead};
-ghost use Rattle.back_cdr.specs.Targets.{IsCdr, target_of};
+ghost use Rattle.back_cdr.specs.Targets.{IsCdr, has_body, target_of};
 ghost use Rattle.back_cdr.specs.Targets as defs;
 
+use crate::bodies::has_body;
 use crate::printing::{answer, request, user};
 use crate::targets::{exception_of, names_are_short, operation_of, order_of};
 use cast_stub::{HeadField, Put, Puts, SendCode, SendOp, SendOps, SendSubs};
@@ -39,46 +41,54 @@ fn id(alloc: Global, order: Order) -> Result<SendOp, NoMemory>
     Ok(SendOp::Chunk(4, puts))
 }
 
-/// The octets before the id.
-fn before_id(octets: &[u8]) -> &[u8]
-    requires { 20 ≤ length octets.now }
-    ensures { result.now ≡ take 16 octets.now }
+/// Where the id of a head is.
+fn id_place(minor: u8) -> usize
+    ensures value { result ≡ id_place minor }
+    ensures most { result ≤ 16 }
 {
-    &octets[..16]
+    if minor == 0 { 16 } else { 12 }
+}
+
+/// The octets before the id.
+fn before_id(place: usize, octets: &[u8]) -> &[u8]
+    requires { place + 4 ≤ length octets.now }
+    ensures { result.now ≡ take place octets.now }
+{
+    &octets[..place]
 }
 
 /// The octets after the id.
-fn after_id(octets: &[u8]) -> &[u8]
-    requires { 20 ≤ length octets.now }
-    ensures { result.now ≡ drop 20 octets.now }
+fn after_id(place: usize, octets: &[u8]) -> &[u8]
+    requires { place + 4 ≤ length octets.now }
+    ensures { result.now ≡ drop (place + 4) octets.now }
 {
-    &octets[20..]
+    &octets[place + 4..]
 }
 
-/// Chunks of these octets, with the request's id from the 17th on.
-fn chunks_of(alloc: Global, order: Order, octets: &[u8]) -> Result<SendCode, NoMemory>
-    requires many { 20 ≤ length octets.now }
+/// Chunks of these octets, with the request's id from this place on.
+fn chunks_of(alloc: Global, order: Order, place: usize, octets: &[u8]) -> Result<SendCode, NoMemory>
+    requires many { place + 4 ≤ length octets.now }
     requires few { length octets.now < 2 ^ 32 }
-    ensures { IfOk result (λ code. IsCoded order octets.now code) }
+    ensures { IfOk result (λ code. IsCoded order place octets.now code) }
 {
     let mut ops = SendOps::new(alloc);
-    ops.push(constant(alloc, before_id(octets))?)?;
+    ops.push(constant(alloc, before_id(place, octets))?)?;
     ops.push(id(alloc, order)?)?;
-    ops.push(constant(alloc, after_id(octets))?)?;
+    ops.push(constant(alloc, after_id(place, octets))?)?;
     Ok(SendCode {
         ops,
         subs: SendSubs::new(alloc),
     })
 }
 
-/// Code that is these octets, with the request's id from the 17th on.
-fn code_of(alloc: Global, order: Order, octets: &[u8]) -> Result<SendCode, NoMemory>
-    requires many { 20 ≤ length octets.now }
+/// Code that is these octets, with the request's id from this place on.
+fn code_of(alloc: Global, order: Order, place: usize, octets: &[u8]) -> Result<SendCode, NoMemory>
+    requires many { place + 4 ≤ length octets.now }
     requires few { length octets.now < 2 ^ 32 }
-    ensures means { IfOk result (λ code. Leads (λ h. with_id order octets.now h.id) code) }
+    ensures means { IfOk result (λ code. Leads (λ h. with_id order place octets.now h.id) code) }
     ensures chunks { IfOk result AreChunks }
 {
-    chunks_of(alloc, order, octets)
+    chunks_of(alloc, order, place, octets)
 }
 
 /// The order of the messages that are sent.
@@ -88,24 +98,26 @@ pub(crate) fn sent_order(bound: &Bound) -> Order
     order_of(bound.back())
 }
 
-/// The octets of the head of a request.
-pub(crate) fn call_octets(
+/// The octets of the head of a request, with 0 as its id.
+fn call_octets(
     alloc: Global,
     order: Order,
     bound: &Bound,
     op: u32,
-    id: u32,
+    minor: u8,
 ) -> Result<Octets, NoMemory>
     requires cdr { IsCdr bound.now.back }
     requires op { op < length bound.now.ops }
-    ensures { IfOk result (λ o. o ≡ lead order (target_of bound.now op) id) }
+    ensures { IfOk result (λ o. o
+        ≡ lead minor (has_body bound.now op) order (target_of bound.now op) 0) }
 {
     names_are_short(bound);
     let (i, called) = operation_of(bound, op);
     request(
         alloc,
+        minor,
+        has_body(bound, op),
         order,
-        id,
         !called.oneway,
         i.name.as_slice(),
         called.name.as_slice(),
@@ -119,49 +131,58 @@ fn reply_octets(
     bound: &Bound,
     op: u32,
     arm: u32,
+    minor: u8,
 ) -> Result<Octets, NoMemory>
     requires cdr { IsCdr bound.now.back }
     requires op { op < length bound.now.ops }
     requires arm { arm ≤ length (target_of bound.now op).ids }
-    ensures { IfOk result (λ o. o ≡ reply_lead order (target_of bound.now op) arm 0) }
+    ensures { IfOk result (λ o. o ≡ reply_lead minor order (target_of bound.now op) arm 0) }
 {
     names_are_short(bound);
     if arm == 0 {
-        answer(alloc, order)
+        answer(alloc, minor, order)
     } else {
-        user(alloc, order, exception_of(bound, op, arm))
+        user(alloc, minor, order, exception_of(bound, op, arm))
     }
 }
 
-/// The head of an operation's request: the object's key is the name of its interface. The size is
+/// The head of an operation's request in a version: the object's key is the name of its interface. The size is
 /// set by `size_patch`.
-pub fn lead_call(alloc: Global, bound: &Bound, op: u32) -> Result<SendCode, NoMemory>
+pub fn lead_call(alloc: Global, bound: &Bound, op: u32, minor: u8) -> Result<SendCode, NoMemory>
     requires cdr { IsCdr bound.now.back }
     requires op { op < length bound.now.ops }
-    ensures means { IfOk result
-        (λ code. Leads (λ h. lead (defs.order_of bound.now.back) (target_of bound.now op) h.id) code) }
+    requires minor { IsMinor minor }
+    ensures means { IfOk result (λ code. Leads (λ h. lead minor (has_body bound.now op)
+        (defs.order_of bound.now.back) (target_of bound.now op) h.id) code) }
     ensures chunks { IfOk result AreChunks }
 {
     names_are_short(bound);
     let order = sent_order(bound);
-    let octets = call_octets(alloc, order, bound, op, 0)?;
-    code_of(alloc, order, octets.as_slice())
+    let octets = call_octets(alloc, order, bound, op, minor)?;
+    code_of(alloc, order, id_place(minor), octets.as_slice())
 }
 
-/// The head of a reply to an operation: arm 0 is the answer, arm k the k-th of its exceptions. The
+/// The head of a reply to an operation in a version: arm 0 is the answer, arm k the k-th of its exceptions. The
 /// size is set by `size_patch`.
-pub fn lead_reply(alloc: Global, bound: &Bound, op: u32, arm: u32) -> Result<SendCode, NoMemory>
+pub fn lead_reply(
+    alloc: Global,
+    bound: &Bound,
+    op: u32,
+    arm: u32,
+    minor: u8,
+) -> Result<SendCode, NoMemory>
     requires cdr { IsCdr bound.now.back }
     requires op { op < length bound.now.ops }
     requires arm { arm ≤ length (target_of bound.now op).ids }
+    requires minor { IsMinor minor }
     ensures means { IfOk result (λ code. Leads
-        (λ h. reply_lead (defs.order_of bound.now.back) (target_of bound.now op) arm h.id) code) }
+        (λ h. reply_lead minor (defs.order_of bound.now.back) (target_of bound.now op) arm h.id) code) }
     ensures chunks { IfOk result AreChunks }
 {
     names_are_short(bound);
     let order = sent_order(bound);
-    let octets = reply_octets(alloc, order, bound, op, arm)?;
-    code_of(alloc, order, octets.as_slice())
+    let octets = reply_octets(alloc, order, bound, op, arm, minor)?;
+    code_of(alloc, order, id_place(minor), octets.as_slice())
 }
 
 /// The operation that sets the size of a message, once all of it is there: the number of octets

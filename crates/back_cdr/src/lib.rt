@@ -1,7 +1,8 @@
-//! Requests over GIOP 1.0 (OMG CORBA, chapter GIOP), and CDR in either order: the heads that are
-//! sent, as code.
+//! Requests over GIOP 1.0 and 1.2 (OMG CORBA, chapter GIOP), and CDR in either order: the heads that
+//! are sent, as code.
 #![tactic(auto)]
 
+mod bodies;
 mod laws;
 mod leads;
 mod lowering;
@@ -12,7 +13,7 @@ mod recv_lowering;
 mod seek;
 mod targets;
 
-pub use laws::{leads_have_one_length, requests_are_named_right};
+pub use laws::{bodies_have_octets, leads_have_one_length, requests_are_named_right};
 pub use leads::{lead_call, lead_reply, size_patch};
 pub use lowering::lower_send;
 pub use names::Names;

@@ -5,6 +5,7 @@ ghost use Rattle.aoi.specs.Plain.{plain_interface, plain_operation};
 ghost use Rattle.wire_def.specs.Lone.{IsPlain};
 ghost use Rattle.head_kit.specs.Calls.{IsBelow};
 ghost use Rattle.giop_head.specs.declared.header.Way.TheVariants.{Requests};
+ghost use Rattle.giop_head.specs.Header.{IsMinor};
 ghost use Rattle.giop_head.specs.Heads.{StopsWith};
 ghost use Rattle.giop_head.specs.Reported.{request_seen};
 ghost use Rattle.back_cdr.specs.Names.{AreNames, AreNamesOver, found, raise_of};
@@ -126,6 +127,7 @@ impl Names {
         ensures begins { IfOk result (λ c. Calls bound.now message.now c) }
         ensures below { IfOk result (λ c. IsBelow (length bound.now.ops) c.naming) }
         ensures plain { IfOk result (λ c. IsPlain c.encoding) }
+        ensures minor { IfOk result (λ c. IsMinor c.minor) }
         ensures stops { IfErr result (λ e. StopsWith Requests message.now e) }
     {
         match read_request(message) {
@@ -134,6 +136,7 @@ impl Names {
                 head: request.head,
                 encoding: laid(request.head.order),
                 used: request.used,
+                minor: request.minor,
             }),
             Err(fault) => Err(fault),
         }

@@ -3,7 +3,7 @@
 ghost use Rattle.std.specs.Prelude.{◌≡◌, IfOk, length};
 ghost use Rattle.giop_head.specs.Items.{flag};
 ghost use Rattle.giop_head.specs.Printed as printed;
-ghost use Rattle.giop_head.specs.Printed.{answer_octets, header_octets, request_octets, status_octets, user_octets};
+ghost use Rattle.giop_head.specs.Printed.{answer_octets, begun_octets, header_octets, request_octets, status_octets, user_octets};
 ghost use Rattle.back_cdr.specs.Targets.{IsShort};
 
 use kit_base::{NoMemory, Octets};
@@ -35,8 +35,8 @@ fn long_octets(order: Order, n: u32) -> [u8; 4]
 }
 
 /// The header of a message.
-fn header(alloc: Global, order: Order, message_type: u8) -> Result<Octets, NoMemory>
-    ensures { IfOk result (λ o. o ≡ header_octets order message_type) }
+fn header(alloc: Global, minor: u8, order: Order, message_type: u8) -> Result<Octets, NoMemory>
+    ensures { IfOk result (λ o. o ≡ header_octets minor order message_type) }
 {
     let octet = match order {
         Order::Big => 0,
@@ -48,7 +48,7 @@ fn header(alloc: Global, order: Order, message_type: u8) -> Result<Octets, NoMem
         b'O',
         b'P',
         1,
-        0,
+        minor,
         octet,
         message_type,
         0,
@@ -99,52 +99,171 @@ fn flag(holds: bool) -> u8
     if holds { 1 } else { 0 }
 }
 
-/// The head of a request.
+/// The octets of an unsigned short.
+fn short_octets(order: Order, n: u16) -> [u8; 2]
+    ensures { result ≡ printed.short_octets order n }
+{
+    match order {
+        Order::Big => n.to_be_bytes(),
+        Order::Little => n.to_le_bytes(),
+    }
+}
+
+/// An unsigned short after other octets.
+fn then_short(order: Order, n: u16, octets: Octets) -> Result<Octets, NoMemory>
+    ensures { IfOk result (λ o. o ≡ printed.then_short order n octets) }
+{
+    let mut octets = octets;
+    let zeros = [0u8; 2];
+    let gap = (2 - octets.len() % 2) % 2;
+    octets.append(&zeros[..gap])?;
+    octets.append(&short_octets(order, n))?;
+    Ok(octets)
+}
+
+/// The octet of response flags.
+fn response_flags(wants: bool) -> u8
+    ensures { result ≡ printed.response_flags wants }
+{
+    if wants { 3 } else { 0 }
+}
+
+// ---- what differs between versions
+
+/// No service contexts, where they come before all other fields.
+fn then_first(minor: u8, order: Order, octets: Octets) -> Result<Octets, NoMemory>
+    ensures { IfOk result (λ o. o ≡ printed.then_first minor order octets) }
+{
+    if minor == 0 {
+        then_long(order, 0, octets)
+    } else {
+        Ok(octets)
+    }
+}
+
+/// No service contexts, where they come after the status of a reply.
+fn then_last(minor: u8, order: Order, octets: Octets) -> Result<Octets, NoMemory>
+    ensures { IfOk result (λ o. o ≡ printed.then_last minor order octets) }
+{
+    if minor == 0 {
+        Ok(octets)
+    } else {
+        then_long(order, 0, octets)
+    }
+}
+
+/// Whether a reply is wanted, after other octets.
+fn then_wants(minor: u8, wants: bool, octets: Octets) -> Result<Octets, NoMemory>
+    ensures { IfOk result (λ o. o ≡ printed.then_wants minor wants octets) }
+{
+    let mut octets = octets;
+    if minor == 0 {
+        octets.push(flag(wants))?;
+    } else {
+        octets.append(&[response_flags(wants), 0, 0, 0])?;
+    }
+    Ok(octets)
+}
+
+/// A key as the target, after other octets.
+fn then_target(minor: u8, order: Order, octets: Octets) -> Result<Octets, NoMemory>
+    ensures { IfOk result (λ o. o ≡ printed.then_target minor order octets) }
+{
+    if minor == 0 {
+        Ok(octets)
+    } else {
+        then_short(order, 0, octets)
+    }
+}
+
+/// The last fields of a request's head, after other octets.
+fn then_close(minor: u8, order: Order, octets: Octets) -> Result<Octets, NoMemory>
+    ensures { IfOk result (λ o. o ≡ printed.then_close minor order octets) }
+{
+    if minor == 0 {
+        then_sequence(order, &[], octets)
+    } else {
+        then_long(order, 0, octets)
+    }
+}
+
+/// Zeros up to a multiple of 8, where a body follows in version 1.2.
+fn then_gap(minor: u8, body: bool, octets: Octets) -> Result<Octets, NoMemory>
+    ensures { IfOk result (λ o. o ≡ printed.then_gap minor body octets) }
+{
+    let mut octets = octets;
+    if minor != 0 && body {
+        let zeros = [0u8; 8];
+        let gap = (8 - octets.len() % 8) % 8;
+        octets.append(&zeros[..gap])?;
+    }
+    Ok(octets)
+}
+
+// ---- heads
+
+/// What comes before a key in a request, with 0 as its id.
+fn begun(alloc: Global, minor: u8, order: Order, wants: bool) -> Result<Octets, NoMemory>
+    ensures { IfOk result (λ o. o ≡ begun_octets minor order 0 wants) }
+{
+    let octets = header(alloc, minor, order, REQUEST)?;
+    let octets = then_first(minor, order, octets)?;
+    let octets = then_long(order, 0, octets)?;
+    let octets = then_wants(minor, wants, octets)?;
+    then_target(minor, order, octets)
+}
+
+/// The head of a request, with 0 as its id, which a body may follow.
 #[tactic(auto, unfolding(giop_head::specs::Printed::request_octets))]
 pub(crate) fn request(
     alloc: Global,
+    minor: u8,
+    body: bool,
     order: Order,
-    id: u32,
     wants: bool,
     key: &[u8],
     name: &[u8],
 ) -> Result<Octets, NoMemory>
     requires key { IsShort key.now }
     requires name { IsShort name.now }
-    ensures { IfOk result
-        (λ o. o ≡ request_octets order (record { id = id; wants = wants; key = key.now; name = name.now })) }
+    ensures { IfOk result (λ o. o ≡ request_octets minor body order
+        (record { id = 0; wants = wants; key = key.now; name = name.now })) }
 {
-    let octets = header(alloc, order, REQUEST)?;
-    let octets = then_long(order, 0, octets)?;
-    let mut octets = then_long(order, id, octets)?;
-    octets.push(flag(wants))?;
+    let octets = begun(alloc, minor, order, wants)?;
     let octets = then_sequence(order, key, octets)?;
     let octets = then_string(order, name, octets)?;
-    then_sequence(order, &[], octets)
+    let octets = then_close(minor, order, octets)?;
+    then_gap(minor, body, octets)
 }
 
-/// The head of a reply, up to its status.
-fn status(alloc: Global, order: Order, status: u32) -> Result<Octets, NoMemory>
-    ensures { IfOk result (λ o. o ≡ status_octets order 0 status) }
+/// The head of a reply, up to what follows its status.
+fn status(alloc: Global, minor: u8, order: Order, status: u32) -> Result<Octets, NoMemory>
+    ensures { IfOk result (λ o. o ≡ status_octets minor order 0 status) }
 {
-    let octets = header(alloc, order, REPLY)?;
+    let octets = header(alloc, minor, order, REPLY)?;
+    let octets = then_first(minor, order, octets)?;
     let octets = then_long(order, 0, octets)?;
-    let octets = then_long(order, 0, octets)?;
-    then_long(order, status, octets)
+    let octets = then_long(order, status, octets)?;
+    then_last(minor, order, octets)
 }
 
 /// The head of an answer.
-pub(crate) fn answer(alloc: Global, order: Order) -> Result<Octets, NoMemory>
-    ensures { IfOk result (λ o. o ≡ answer_octets order 0) }
+pub(crate) fn answer(alloc: Global, minor: u8, order: Order) -> Result<Octets, NoMemory>
+    ensures { IfOk result (λ o. o ≡ answer_octets minor order 0) }
 {
-    status(alloc, order, 0)
+    status(alloc, minor, order, 0)
 }
 
 /// The head of a reply with a user exception.
-pub(crate) fn user(alloc: Global, order: Order, exception: &[u8]) -> Result<Octets, NoMemory>
+pub(crate) fn user(
+    alloc: Global,
+    minor: u8,
+    order: Order,
+    exception: &[u8],
+) -> Result<Octets, NoMemory>
     requires { IsShort exception.now }
-    ensures { IfOk result (λ o. o ≡ user_octets order 0 exception.now) }
+    ensures { IfOk result (λ o. o ≡ user_octets minor order 0 exception.now) }
 {
-    let octets = status(alloc, order, 1)?;
+    let octets = status(alloc, minor, order, 1)?;
     then_string(order, exception, octets)
 }

@@ -7,6 +7,7 @@ ghost use Rattle.aoi.specs.Plain.{plain_interface};
 ghost use Rattle.wire_def.specs.Lone.{IsPlain};
 ghost use Rattle.head_kit.specs.Calls.{IsBelow};
 ghost use Rattle.giop_head.specs.declared.header.Way.TheVariants.{Requests};
+ghost use Rattle.giop_head.specs.Header.{IsMinor};
 ghost use Rattle.giop_head.specs.Heads.{StopsWith};
 ghost use Rattle.giop_head.specs.Items.{laid};
 ghost use Rattle.giop_head.specs.Reported.{request_seen};
@@ -80,12 +81,14 @@ fn named(bound: &Bound, request: &GiopRequest<'_>) -> Naming
 }
 
 /// Reads the head of a request from the first octets of a message: what it says over a bound unit, or
-/// the first item of it that is cut off or wrong. A LocateRequest has the fault of its type.
+/// the first item of it that is cut off or wrong. A LocateRequest has the fault of its type, and a target of
+/// another kind than a key is a fault.
 pub fn read_called(bound: &Bound, message: &[u8]) -> Result<Called, HeadErr>
     requires cdr { IsCdr bound.now.back }
     ensures begins { IfOk result (λ c. Calls bound.now message.now c) }
     ensures below { IfOk result (λ c. IsBelow (length bound.now.ops) c.naming) }
     ensures plain { IfOk result (λ c. IsPlain c.encoding) }
+    ensures minor { IfOk result (λ c. IsMinor c.minor) }
     ensures stops { IfErr result (λ e. StopsWith Requests message.now e) }
 {
     match read_request(message) {
@@ -94,6 +97,7 @@ pub fn read_called(bound: &Bound, message: &[u8]) -> Result<Called, HeadErr>
             head: request.head,
             encoding: laid(request.head.order),
             used: request.used,
+            minor: request.minor,
         }),
         Err(fault) => Err(fault),
     }

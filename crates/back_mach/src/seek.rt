@@ -81,6 +81,7 @@ pub fn read_called(bound: &Bound, message: &[u8]) -> Result<Called, HeadErr>
             head: call.head,
             encoding: ENCODING,
             used: call.used,
+            minor: 0,
         }),
         Err(fault) => Err(fault),
     }

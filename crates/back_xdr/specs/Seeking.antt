@@ -34,7 +34,7 @@ named b c = named_from 0 b.unit.interfaces c
 
 -- what the head of a call says
 abbrev pub called : Binding → OncCall → Called
-called b c = record { naming = named b c; head = c.head; encoding = encoding; used = c.used }
+called b c = record { naming = named b c; head = c.head; encoding = encoding; used = c.used; minor = 0 }
 
 -- a message begins with the head of a call that says this
 abbrev pub Calls : Binding → List ℕ → Called → Type 0

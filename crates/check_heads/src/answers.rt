@@ -14,6 +14,8 @@ enum Ask {
     GiopReply,
     /// The octets of the GIOP reply that refuses a request.
     GiopRefuse,
+    /// The octets of the GIOP reply to a request whose target is no key.
+    GiopAddressing,
     /// What the head of a request over Mach says.
     MachCall,
     /// What the head of a reply over Mach says.
@@ -32,6 +34,7 @@ fn ask_of(words: &str) -> Option<Ask> {
         "giop call" => Some(Ask::GiopCall),
         "giop reply" => Some(Ask::GiopReply),
         "giop refuse" => Some(Ask::GiopRefuse),
+        "giop addressing" => Some(Ask::GiopAddressing),
         "mach call" => Some(Ask::MachCall),
         "mach reply" => Some(Ask::MachReply),
         "mach refuse" => Some(Ask::MachRefuse),
@@ -58,6 +61,7 @@ fn answer_to(alloc: Global, row: &Json, ask: Ask) -> Result<String, Bad> {
         Ask::GiopCall => giop::call(alloc, row),
         Ask::GiopReply => giop::reply(alloc, row),
         Ask::GiopRefuse => refusals::refused(alloc, row),
+        Ask::GiopAddressing => refusals::addressed(alloc, row),
         Ask::MachCall => mach::call(alloc, row),
         Ask::MachReply => mach::reply(alloc, row),
         Ask::MachRefuse => mach::refused(alloc, row),

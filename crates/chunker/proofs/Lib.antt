@@ -22,3 +22,25 @@ pub mod Moves
 pub mod Clauses
 -- * What one more operation makes of the code that is made so far
 pub mod Making
+-- * Each operation that receives before what follows it
+pub mod RecvPieces
+-- Gets that stand further on read the same from an earlier place, and leave the place as it is
+pub mod RecvMoved
+-- Two runs from the same place, one of them after fewer tests, that end alike; and where a run ends. What is done with both
+pub mod RecvFaring
+-- Where a run of receive code ends: at a place of what is left behind it, by induction on the block
+pub mod RecvEnding
+-- Where the open take lacks octets, or one of its gets refuses, so does all that becomes of it, by induction on the block
+pub mod RecvStuck
+-- The open take and where the given code is: what closes it, and what goes on with it
+pub mod RecvOpening
+-- Chunked receive code gives what the given code gives, or refuses as it does, after no more tests, by induction on the block
+pub mod RecvChunking
+-- Chunked receive code has every other operation in its place, by induction on the block
+pub mod RecvSkeleton
+-- In chunked receive code at most seven needs and skips stand together: each skip that is kept makes a greater multiple known
+pub mod RecvShortness
+-- * What is promised of chunked receive code, from what it is
+pub mod RecvClauses
+-- * What one more operation makes of the receive code that is made so far
+pub mod RecvMaking

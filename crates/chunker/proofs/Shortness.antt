@@ -22,19 +22,19 @@ pub record Allowed (m : ℕ) : Type 0 where
   pub many : ℕ
   pub allows : Allows m many
 
-allowed : (m : ℕ) → Wide m → Allowed m
+pub allowed : (m : ℕ) → Wide m → Allowed m
 allowed _ one = record { many = 0; allows = by_one }
 allowed _ two = record { many = 2; allows = by_two }
 allowed _ four = record { many = 4; allows = by_four }
 allowed _ eight = record { many = 6; allows = by_eight }
 
-six : (m w : ℕ) → Allows m w → w ≤ 6
+pub six : (m w : ℕ) → Allows m w → w ≤ 6
 six _ _ by_one = omega arith
 six _ _ by_two = omega arith
 six _ _ by_four = omega arith
 six _ _ by_eight = omega arith
 
-allows_known : (ph : Phase) (w : ℕ) → Allows ph.m w → Wide ph.m
+pub allows_known : (ph : Phase) (w : ℕ) → Allows ph.m w → Wide ph.m
 allows_known ph w g = wide_of ph.m w g where
   wide_of : (m w : ℕ) → Allows m w → Wide m
   wide_of _ _ by_one = one
@@ -43,7 +43,7 @@ allows_known ph w g = wide_of ph.m w g where
   wide_of _ _ by_eight = eight
 
 -- an align that is kept allows two more
-two_more : (m w a x : ℕ) → Allows m w → Allows a x → nat_eq (m % a) 0 ≡ false → w + 2 ≤ x
+pub two_more : (m w a x : ℕ) → Allows m w → Allows a x → nat_eq (m % a) 0 ≡ false → w + 2 ≤ x
 two_more _ _ _ _ by_one by_one e = absurd cc
 two_more _ _ _ _ by_one by_two e = omega arith
 two_more _ _ _ _ by_one by_four e = omega arith
@@ -83,10 +83,10 @@ three_known r false true z = four
 three_known r false false true = two
 three_known r false false false = one
 
-meet_known : (a b : Phase) → Known (meet a b)
+pub meet_known : (a b : Phase) → Known (meet a b)
 meet_known a b = three_known a.r _ _ _
 
-aligned_known : (ph : Phase) (a : ℕ) → Known ph → Known (aligned ph a)
+pub aligned_known : (ph : Phase) (a : ℕ) → Known ph → Known (aligned ph a)
 aligned_known ph a k = by_width (is_width a) refl where
   by_known : (s : Bool) → is_width a ≡ true → Known (if s then shift ph (gap ph.r a) else modulo a 0)
   by_known true w = k
@@ -97,11 +97,11 @@ aligned_known ph a k = by_width (is_width a) refl where
   by_width false w = k
 
 -- an end that may not be there
-abbrev EndKnown : Option Phase → Type 0
+abbrev pub EndKnown : Option Phase → Type 0
 EndKnown None = Unit {0}
 EndKnown (Some x) = Known x
 
-meet_end_known : (e : Option Phase) (b : Phase) → Known b → Known (meet_end e b)
+pub meet_end_known : (e : Option Phase) (b : Phase) → Known b → Known (meet_end e b)
 meet_end_known None b k = k
 meet_end_known (Some a) b k = meet_known a b
 

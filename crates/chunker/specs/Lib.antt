@@ -4,3 +4,8 @@ pub mod Joins
 pub mod Left
 pub mod Makes
 pub mod Phases
+pub mod RecvChunked
+pub mod RecvContract
+pub mod RecvKept
+pub mod RecvLeft
+pub mod RecvMakes

@@ -12,7 +12,7 @@ use kit_base::{NoMemory, Octets};
 use std::alloc::Global;
 
 /// So many octets further on.
-fn further(by: u32, off: u32) -> Result<u32, NoMemory>
+pub(crate) fn further(by: u32, off: u32) -> Result<u32, NoMemory>
     ensures { IfOk result (λ n. n ≡ off + by) }
 {
     match off.checked_add(by) {

@@ -56,7 +56,7 @@ fn leave_op(op: &SendOp, phase: Phase) -> Phase
 }
 
 /// Behind zeros up to a multiple.
-fn leave_align(a: u32, phase: Phase) -> Phase
+pub(crate) fn leave_align(a: u32, phase: Phase) -> Phase
     requires phase { IsPhase phase }
     ensures is { result ≡ aligned phase a }
     ensures phase { IsPhase result }
@@ -72,7 +72,7 @@ fn leave_align(a: u32, phase: Phase) -> Phase
 }
 
 /// What two ends say, or one where there is no other.
-fn meet_end(end: Option<Phase>, phase: Phase) -> Phase
+pub(crate) fn meet_end(end: Option<Phase>, phase: Phase) -> Phase
     requires phase { IsPhase phase }
     ensures is { result ≡ meet_end end phase }
     ensures phase { IsPhase result }
@@ -84,7 +84,7 @@ fn meet_end(end: Option<Phase>, phase: Phase) -> Phase
 }
 
 /// An end, or nothing where there is none.
-fn or_unknown(end: Option<Phase>) -> Phase
+pub(crate) fn or_unknown(end: Option<Phase>) -> Phase
     requires end { IfSome end IsPhase }
     ensures is { result ≡ or_unknown end }
     ensures phase { IsPhase result }

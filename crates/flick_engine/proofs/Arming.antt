@@ -185,12 +185,12 @@ put_arm t v n k w choice typed e is =
 
 -- ---- what is said of the code of the arm that a value is of
 
-pub covered-as : (x y : Coded) (op k : ℕ) (h : Head) (v w : Val) → y ≡ x → v ≡ arm (pos k) w → IsCoveredReply y op k h w
-    → IsCoveredAnswer x op h v
-covered-as x y op k h v w same is covered =
-    subst (λ (z : Val). IsCoveredAnswer x op h z) (sym is) (subst (λ (c : Coded). IsCoveredReply c op k h w) same covered)
+pub covered-as : (x y : Coded) (m op k : ℕ) (h : Head) (v w : Val) → y ≡ x → v ≡ arm (pos k) w → IsCoveredReply y op k m h w
+    → IsCoveredAnswer x m op h v
+covered-as x y m op k h v w same is covered =
+    subst (λ (z : Val). IsCoveredAnswer x m op h z) (sym is) (subst (λ (c : Coded). IsCoveredReply c op k m h w) same covered)
 
-pub sparing-as : (x y : Coded) (op k : ℕ) (h : Head) (v w : Val) → y ≡ x → v ≡ arm (pos k) w → IsSparingReply y op k h w
-    → IsSparingAnswer x op h v
-sparing-as x y op k h v w same is sparing =
-    subst (λ (z : Val). IsSparingAnswer x op h z) (sym is) (subst (λ (c : Coded). IsSparingReply c op k h w) same sparing)
+pub sparing-as : (x y : Coded) (m op k : ℕ) (h : Head) (v w : Val) → y ≡ x → v ≡ arm (pos k) w → IsSparingReply y op k m h w
+    → IsSparingAnswer x m op h v
+sparing-as x y m op k h v w same is sparing =
+    subst (λ (z : Val). IsSparingAnswer x m op h z) (sym is) (subst (λ (c : Coded). IsSparingReply c op k m h w) same sparing)

@@ -1,5 +1,5 @@
 -- What holds of the heads of each back end.
-use Rattle.std.proofs.Common.{◌≡◌, ℕ, ◌+◌, ◌<◌, ◌≤◌, List, [], ◌∷◌, ◌++◌, map, length, drop, Some, refl, sym, ap, ◌∙◌, subst, arith}
+use Rattle.std.proofs.Common.{◌≡◌, ℕ, Bool, ◌+◌, ◌<◌, ◌≤◌, List, [], ◌∷◌, ◌++◌, map, length, drop, Some, refl, sym, ap, ◌∙◌, subst, arith}
 use Rattle.std.specs.Prelude.{slice_get, slice_index_or}
 use Rattle.std.proofs.lemmas.Bool.{eqb-true}
 use Rattle.std.proofs.lemmas.List.{map-append, drop_at}
@@ -33,12 +33,13 @@ use Rattle.back_xdr.proofs.Named.{named_below, named_right}
 use Rattle.back_xdr.proofs.Sent.{leads_read}
 use Rattle.giop_head.specs.Call.{Request}
 use Rattle.giop_head.specs.Items.{laid}
+use Rattle.giop_head.specs.Laws.{MayFollow}
 use Rattle.giop_head.specs.Printed.{with_size}
 use Rattle.giop_head.specs.Reported.{ReportedRequest}
 use Rattle.giop_head.proofs.Sent.{requests_begin, follows_request, length_sized}
 use Rattle.back_cdr.specs.Leads as cdr_leads
 use Rattle.back_cdr.specs.Seeking as cdr_seeking
-use Rattle.back_cdr.specs.Targets.{IsCdr, ops_of, Target, no_target, targets, target_of}
+use Rattle.back_cdr.specs.Targets.{IsCdr, has_body, ops_of, Target, no_target, targets, target_of}
 use Rattle.back_cdr.proofs.Counting as cdr_counting
 use Rattle.back_cdr.proofs.Counting.{own_alone}
 use Rattle.back_cdr.proofs.Growing.{long_request}
@@ -85,11 +86,11 @@ has_head b o oct = has_head_over b.back b o oct
 abbrev IsLongEnough : List ℕ → Type 0
 IsLongEnough o = 12 ≤ length o
 
-pub long_lead : (k : Back) (b : Binding) (op : ℕ) (head : Head) → IsLongEnough (lead_over k b op head)
-long_lead back.Xdr b op head = omega arith
-long_lead back.CdrBig b op head = long_request Big (target_of b op) head.id
-long_lead back.CdrLittle b op head = long_request Little (target_of b op) head.id
-long_lead back.Mach b op head = omega (arith, mach_sent.long_request (routine_of b op) head)
+pub long_lead : (k : Back) (b : Binding) (m op : ℕ) (head : Head) → IsLongEnough (lead_over k b m op head)
+long_lead back.Xdr b m op head = omega arith
+long_lead back.CdrBig b m op head = long_request m (has_body b op) Big (target_of b op) head.id
+long_lead back.CdrLittle b m op head = long_request m (has_body b op) Little (target_of b op) head.id
+long_lead back.Mach b m op head = omega (arith, mach_sent.long_request (routine_of b op) head)
 
 pub same_length : (k : Back) (o : List ℕ) → IsLongEnough o → length (sized k o) ≡ length o
 same_length back.Xdr o long = refl
@@ -98,101 +99,108 @@ same_length back.CdrLittle o long = length_sized Little o long
 same_length back.Mach o long = mach_sent.length_sized o (omega (arith, long))
 
 -- a head that is sent is received as what it says, and its body follows it
-pub record IsReceived (k : Back) (b : Binding) (op : ℕ) (head : Head) (c : Called) : Type 0 where
-  pub begins : (rest : List ℕ) → length (lead_over k b op head ++ rest) ≤ longest_message
-      → BeginsOver k b (sized k (lead_over k b op head ++ rest)) c
-  pub follows : (rest : List ℕ) → drop c.used (sized k (lead_over k b op head ++ rest)) ≡ rest
-  pub used : c.used ≡ length (lead_over k b op head)
+pub record IsReceived (k : Back) (b : Binding) (m op : ℕ) (head : Head) (c : Called) : Type 0 where
+  pub begins : (rest : List ℕ) → MayFollow (has_body b op) rest → length (lead_over k b m op head ++ rest) ≤ longest_message
+      → BeginsOver k b (sized k (lead_over k b m op head ++ rest)) c
+  pub follows : (rest : List ℕ) → drop c.used (sized k (lead_over k b m op head ++ rest)) ≡ rest
+  pub used : c.used ≡ length (lead_over k b m op head)
   pub encoding : c.encoding ≡ encoding k
 
-xdr_used : (b : Binding) (op : ℕ) (head : Head) (c : Called) → SaysOver back.Xdr b op head c → c.used
-    ≡ length (lead_over back.Xdr b op head)
-xdr_used b op head c (fits, words, is) = sym (ap (λ (x : Called). x.used) is)
+xdr_used : (b : Binding) (m op : ℕ) (head : Head) (c : Called) → SaysOver back.Xdr b m op head c → c.used
+    ≡ length (lead_over back.Xdr b m op head)
+xdr_used b m op head c (fits, words, is) = sym (ap (λ (x : Called). x.used) is)
 
-module _ (r : Order) (b : Binding) (op : ℕ) (head : Head) (c : Called) (says : SaysByName r b op head c) where
+module _ (m : ℕ) (r : Order) (b : Binding) (op : ℕ) (head : Head) (c : Called) (says : SaysByName m r b op head c) where
   abbrev asking : Request
   asking = request_of (target_of b op) head.id
 
-  cdr_begins : (rest : List ℕ) → length (cdr_leads.lead r (target_of b op) head.id ++ rest) ≤ longest_message
-      → cdr_seeking.Calls b (with_size r (cdr_leads.lead r (target_of b op) head.id ++ rest)) c
-  cdr_begins rest few = (reported_of r (target_of b op) head.id, requests_begin r asking rest says.0 (omega (arith, few)), says.1)
+  cdr_begins : (rest : List ℕ) → MayFollow (has_body b op) rest
+      → length (cdr_leads.lead m (has_body b op) r (target_of b op) head.id ++ rest) ≤ longest_message
+      → cdr_seeking.Calls b (with_size r (cdr_leads.lead m (has_body b op) r (target_of b op) head.id ++ rest)) c
+  cdr_begins rest body few = (
+    reported_of m (has_body b op) r (target_of b op) head.id,
+    requests_begin m (has_body b op) r asking rest says.0 says.1 body (omega (arith, few)),
+    says.2,
+  )
 
-  cdr_follows : (rest : List ℕ) → drop c.used (with_size r (cdr_leads.lead r (target_of b op) head.id ++ rest)) ≡ rest
+  cdr_follows : (rest : List ℕ) → drop c.used (with_size r (cdr_leads.lead m (has_body b op) r (target_of b op) head.id ++ rest)) ≡ rest
   cdr_follows rest =
-      ap (λ (x : Called). drop x.used (with_size r (cdr_leads.lead r (target_of b op) head.id ++ rest))) (sym says.1)
-      ∙ follows_request r asking rest says.0
+      ap (λ (x : Called). drop x.used (with_size r (cdr_leads.lead m (has_body b op) r (target_of b op) head.id ++ rest)))
+      (sym says.2)
+      ∙ follows_request m (has_body b op) r asking rest says.0 says.1
 
-  cdr_used : c.used ≡ length (cdr_leads.lead r (target_of b op) head.id)
-  cdr_used = ap (λ (x : Called). x.used) (sym says.1)
+  cdr_used : c.used ≡ length (cdr_leads.lead m (has_body b op) r (target_of b op) head.id)
+  cdr_used = ap (λ (x : Called). x.used) (sym says.2)
 
   cdr_encoding : c.encoding ≡ laid r
-  cdr_encoding = ap (λ (x : Called). x.encoding) (sym says.1)
+  cdr_encoding = ap (λ (x : Called). x.encoding) (sym says.2)
 
-received_over : (k : Back) (b : Binding) (op : ℕ) (head : Head) (c : Called) → SaysOver k b op head c → IsReceived k b op head c
-received_over back.Xdr b op head c (fits, words, is) = record {
-  begins = λ rest few. (call_of (procedure_of b op) head.id, leads_read (procedure_of b op) head.id rest fits words, is);
-  follows = λ rest. drop_at (lead_over back.Xdr b op head) rest c.used (sym (xdr_used b op head c (fits, words, is)));
-  used = xdr_used b op head c (fits, words, is);
+received_over : (k : Back) (b : Binding) (m op : ℕ) (head : Head) (c : Called) → SaysOver k b m op head c → IsReceived k b m op head c
+received_over back.Xdr b m op head c (fits, words, is) = record {
+  begins = λ rest body few. (call_of (procedure_of b op) head.id, leads_read (procedure_of b op) head.id rest fits words, is);
+  follows = λ rest. drop_at (lead_over back.Xdr b m op head) rest c.used (sym (xdr_used b m op head c (fits, words, is)));
+  used = xdr_used b m op head c (fits, words, is);
   encoding = sym (ap (λ (x : Called). x.encoding) is);
 }
-received_over back.CdrBig b op head c says =
+received_over back.CdrBig b m op head c says =
     record {
-      begins = cdr_begins Big b op head c says;
-      follows = cdr_follows Big b op head c says;
+      begins = cdr_begins m Big b op head c says;
+      follows = cdr_follows m Big b op head c says;
       used =
-          cdr_used Big b op head c says;
-      encoding = cdr_encoding Big b op head c says;
+          cdr_used m Big b op head c says;
+      encoding = cdr_encoding m Big b op head c says;
     }
-received_over back.CdrLittle b op head c says =
+received_over back.CdrLittle b m op head c says =
     record {
-      begins = cdr_begins Little b op head c says;
-      follows = cdr_follows Little b op head c says;
+      begins = cdr_begins m Little b op head c says;
+      follows = cdr_follows m Little b op head c says;
       used =
-          cdr_used Little b op head c says;
-      encoding = cdr_encoding Little b op head c says;
+          cdr_used m Little b op head c says;
+      encoding = cdr_encoding m Little b op head c says;
     }
-received_over back.Mach b op head c (fits, ports, is) = record {
+received_over back.Mach b m op head c (fits, ports, is) = record {
   begins =
-      λ rest few. (
+      λ rest body few. (
         mach_laws.call_of (routine_of b op) head,
         mach_sent.requests_begin (routine_of b op) head rest fits ports (omega (arith, few)),
         is,
       );
-  follows = λ rest. ap (λ (x : Called). drop x.used (sized back.Mach (lead_over back.Mach b op head ++ rest))) (sym is)
+  follows = λ rest. ap (λ (x : Called). drop x.used (sized back.Mach (lead_over back.Mach b m op head ++ rest))) (sym is)
       ∙ mach_sent.follows_request (routine_of b op) head rest;
   used = ap (λ (x : Called). x.used) (sym is);
   encoding = ap (λ (x : Called). x.encoding) (sym is);
 }
 
-pub received : (b : Binding) (op : ℕ) (head : Head) (c : Called) → Says b op head c → IsReceived b.back b op head c
-received b op head c says = received_over b.back b op head c says
+pub received : (b : Binding) (m op : ℕ) (head : Head) (c : Called) → Says b m op head c → IsReceived b.back b m op head c
+received b m op head c says = received_over b.back b m op head c says
 
 -- ---- bindings of one unit
 
 -- over this back end, the heads of one binding are sent and received as those of the other, and name operations that there are
 pub record AreAlike (k : Back) (b c : Binding) : Type 0 where
-  pub leads : (op : ℕ) (head : Head) → lead_over k b op head ≡ lead_over k c op head
+  pub leads : (m op : ℕ) (head : Head) → has_body b op ≡ has_body c op → lead_over k b m op head ≡ lead_over k c m op head
   pub begins : (o : List ℕ) (x : Called) → BeginsOver k b o x → BeginsOver k c o x
   pub below : (o : List ℕ) (x : Called) → BeginsOver k b o x → IsBelow (length b.ops) x.naming
 
 -- what a call that names this says
 abbrev called_with : OncCall → Naming → Called
-called_with k n = record { naming = n; head = k.head; encoding = encoding back.Xdr; used = k.used }
+called_with k n = record { naming = n; head = k.head; encoding = encoding back.Xdr; used = k.used; minor = 0 }
 
 -- what a request that names this says
 abbrev reported_with : ReportedRequest → Naming → Called
-reported_with t n = record { naming = n; head = t.head; encoding = laid t.head.order; used = t.used }
+reported_with t n = record { naming = n; head = t.head; encoding = laid t.head.order; used = t.used; minor = t.minor }
 
 -- what a request over Mach that names this says
 abbrev mach_with : MachCall → Naming → Called
-mach_with c n = record { naming = n; head = c.head; encoding = encoding back.Mach; used = c.used }
+mach_with c n = record { naming = n; head = c.head; encoding = encoding back.Mach; used = c.used; minor = 0 }
 
 place_same : {A : Type 0} (xs ys : List A) (n : ℕ) (d : A) → xs ≡ ys → slice_index_or xs n d ≡ slice_index_or ys n d
 place_same xs ys n d e = ap (λ zs. slice_index_or zs n d) e
 
 module _ (b c : Binding) (units : b.unit ≡ c.unit) where
-  xdr_leads_alike : (op : ℕ) (head : Head) → lead_over back.Xdr b op head ≡ lead_over back.Xdr c op head
-  xdr_leads_alike op head =
+  xdr_leads_alike : (m op : ℕ) (head : Head) → has_body b op ≡ has_body c op → lead_over back.Xdr b m op head
+      ≡ lead_over back.Xdr c m op head
+  xdr_leads_alike m op head bodies =
       let same : procedure_of b op ≡ procedure_of c op = place_same _ _ op _ (ap (λ (u : PlainUnit). procedures u.interfaces) units) in
       ap (λ p. xdr_leads.lead p head.id) same
 
@@ -208,11 +216,12 @@ module _ (b c : Binding) (units : b.unit ≡ c.unit) where
       subst (λ (n : ℕ). IsBelow n (named b call)) all (named_below 0 b.unit.interfaces call) in
       subst (λ (y : Called). IsBelow (length b.ops) y.naming) is below
 
-  cdr_leads_alike : (r : Order) (op : ℕ) (head : Head) → cdr_leads.lead r (target_of b op) head.id
-      ≡ cdr_leads.lead r (target_of c op) head.id
-  cdr_leads_alike r op head =
+  cdr_leads_alike : (r : Order) (m op : ℕ) (head : Head) → has_body b op ≡ has_body c op
+      → cdr_leads.lead m (has_body b op) r (target_of b op) head.id ≡ cdr_leads.lead m (has_body c op) r (target_of c op) head.id
+  cdr_leads_alike r m op head bodies =
       let same : target_of b op ≡ target_of c op = place_same _ _ op no_target (ap (λ (u : PlainUnit). targets u.interfaces) units) in
-      ap (λ (t : Target). cdr_leads.lead r t head.id) same
+      ap (λ (t : Target). cdr_leads.lead m (has_body b op) r t head.id) same
+      ∙ ap (λ (x : Bool). cdr_leads.lead m x r (target_of c op) head.id) bodies
 
   cdr_begins_alike : (o : List ℕ) (x : Called) → cdr_seeking.Calls b o x → cdr_seeking.Calls c o x
   cdr_begins_alike o x (t, begins, is) =
@@ -230,8 +239,9 @@ module _ (b c : Binding) (units : b.unit ≡ c.unit) where
   cdr_is : (k : Back) → IsCdr k → b.back ≡ k → IsCdr b.back
   cdr_is k is of = subst IsCdr (sym of) is
 
-  mach_leads_alike : (op : ℕ) (head : Head) → lead_over back.Mach b op head ≡ lead_over back.Mach c op head
-  mach_leads_alike op head =
+  mach_leads_alike : (m op : ℕ) (head : Head) → has_body b op ≡ has_body c op → lead_over back.Mach b m op head
+      ≡ lead_over back.Mach c m op head
+  mach_leads_alike m op head bodies =
       ap (λ r. mach_leads.lead r head) (place_same _ _ op no_routine (ap (λ (u : PlainUnit). routines u.interfaces) units))
 
   mach_begins_alike : (o : List ℕ) (x : Called) → mach_seeking.Calls b o x → mach_seeking.Calls c o x

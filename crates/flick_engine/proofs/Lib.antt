@@ -10,6 +10,8 @@ pub mod Deciding
 pub mod Existing
 -- * What a message is, by what its body was read as
 pub mod Answering
+-- Operations without a body send nothing after their heads, by mutual induction on types and fields
+pub mod Bodies
 -- * What is sent is what is received
 pub mod Back
 -- * The operations of a binding are those of its unit, by induction on the interfaces

@@ -25,7 +25,6 @@ use Rattle.giop_head.specs.Items.{laid}
 use Rattle.giop_head.specs.Reply as giop_reply
 use Rattle.giop_head.specs.Reported as giop_reported
 use Rattle.giop_head.proofs.Lawful as giop_lawful
-use Rattle.giop_head.proofs.Sent.{begins}
 use Rattle.back_cdr.specs.Targets.{IsCdr, target_of}
 use Rattle.back_cdr.proofs.Growing.{long_reply}
 use Rattle.back_mach.specs.Heads as mach
@@ -264,11 +263,11 @@ mach_long b op zero arm head = omega arith
 mach_long b op (suc n) arm head = omega arith
 
 -- the length of a message lies within the head of a reply
-long_over : (k : Back) (b : Binding) (op arm : ℕ) (head : Head) → 12 ≤ length (reply_lead_over k b op arm head)
-long_over back.Xdr b op arm head = onc_long (exceptions b op) arm head.id
-long_over back.CdrBig b op arm head = long_reply Big (target_of b op) arm head.id
-long_over back.CdrLittle b op arm head = long_reply Little (target_of b op) arm head.id
-long_over back.Mach b op arm head = mach_long b op (exceptions b op) arm head
+long_over : (k : Back) (b : Binding) (m op arm : ℕ) (head : Head) → 12 ≤ length (reply_lead_over k b m op arm head)
+long_over back.Xdr b m op arm head = onc_long (exceptions b op) arm head.id
+long_over back.CdrBig b m op arm head = long_reply m Big (target_of b op) arm head.id
+long_over back.CdrLittle b m op arm head = long_reply m Little (target_of b op) arm head.id
+long_over back.Mach b m op arm head = mach_long b op (exceptions b op) arm head
 
-pub long_reply_lead : (b : Binding) (op arm : ℕ) (head : Head) → 12 ≤ length (reply_lead_over b.back b op arm head)
-long_reply_lead b op arm head = long_over b.back b op arm head
+pub long_reply_lead : (b : Binding) (m op arm : ℕ) (head : Head) → 12 ≤ length (reply_lead_over b.back b m op arm head)
+long_reply_lead b m op arm head = long_over b.back b m op arm head

@@ -6,20 +6,16 @@ use Rattle.wire_def.specs.declared.encoding.Back.TheVariants as back
 use Rattle.wire_def.specs.declared.head.Head.{Head}
 use Rattle.wire_def.specs.declared.head.Order.{Order}
 use Rattle.wire_def.specs.declared.head.Order.TheVariants.{Big, Little}
-use Rattle.wire_def.specs.Grammar.{Parts}
 use Rattle.pres.specs.Bindings.{Binding}
 use Rattle.head_arms.specs.Raised.{exceptions}
 use Rattle.back_xdr.specs.Leads as onc_leads
 use Rattle.back_xdr.proofs.Sent as onc_sent
 use Rattle.giop_head.specs.declared.header.Way.TheVariants.{Replies}
-use Rattle.giop_head.specs.Contexts.{ContextsSpell}
 use Rattle.giop_head.specs.Heads as giop
-use Rattle.giop_head.specs.Items.{laid, LongSpells}
-use Rattle.giop_head.specs.Laws.{IsLong, IsFate, reply_octets}
-use Rattle.giop_head.specs.Printed.{header_octets, then_long, with_size}
-use Rattle.giop_head.specs.Reply.{Fate, answer, user, system, FateSpells}
-use Rattle.giop_head.proofs.Sending.{fated, reply_puts}
-use Rattle.giop_head.proofs.Sent.{within, begins, rest}
+use Rattle.giop_head.specs.Items.{laid}
+use Rattle.giop_head.specs.Laws.{reply_octets}
+use Rattle.giop_head.specs.Printed.{with_size}
+use Rattle.giop_head.proofs.Sent.{replies_begin_with, follows_reply}
 use Rattle.back_cdr.specs.Leads.{reply_lead as giop_lead}
 use Rattle.back_cdr.specs.Targets.{Target, target_of}
 use Rattle.back_mach.specs.Leads as mach_leads
@@ -30,75 +26,50 @@ use Rattle.flick_engine.specs.Backs.{encoding, sized, reply_lead_over, RepliesIn
 use Rattle.flick_engine.specs.Fates.{Heard}
 
 -- a head that is sent is received as what it says, and its body follows it
-pub record IsReplyReceived (k : Back) (b : Binding) (op arm : ℕ) (head : Head) (t : Heard) : Type 0 where
-  pub begins : (rest : List ℕ) → length (reply_lead_over k b op arm head ++ rest) ≤ longest_message
-      → RepliesOver k b op (sized k (reply_lead_over k b op arm head ++ rest)) t
-  pub follows : (rest : List ℕ) → drop t.used (sized k (reply_lead_over k b op arm head ++ rest)) ≡ rest
-  pub used : t.used ≡ length (reply_lead_over k b op arm head)
+pub record IsReplyReceived (k : Back) (b : Binding) (m op arm : ℕ) (head : Head) (t : Heard) : Type 0 where
+  pub begins : (rest : List ℕ) → length (reply_lead_over k b m op arm head ++ rest) ≤ longest_message
+      → RepliesOver k b op (sized k (reply_lead_over k b m op arm head ++ rest)) t
+  pub follows : (rest : List ℕ) → drop t.used (sized k (reply_lead_over k b m op arm head ++ rest)) ≡ rest
+  pub used : t.used ≡ length (reply_lead_over k b m op arm head)
   pub encoding : t.encoding ≡ encoding k
 
 -- ---- GIOP
 
--- a reply's fields after its header
-replied : (r : Order) (id : ℕ) (f : Fate) → reply_octets r id f ≡ fated r f (then_long r id (then_long r 0 (header_octets r 1)))
-replied r id answer = refl
-replied r id (user s) = refl
-replied r id (system s minor completion) = refl
+lead_octets : (m : ℕ) (r : Order) (t : Target) (arm id : ℕ) → giop_lead m r t arm id ≡ reply_octets m r id (giop_fate_of t arm)
+lead_octets m r t zero id = refl
+lead_octets m r t (suc k) id = refl
 
-lead_octets : (r : Order) (t : Target) (arm id : ℕ) → giop_lead r t arm id ≡ reply_octets r id (giop_fate_of t arm)
-lead_octets r t zero id = refl
-lead_octets r t (suc k) id = refl
-
-module _ (r : Order) (id : ℕ) (f : Fate) (body : List ℕ) (small : IsLong id) (is : IsFate f) where
-  pub giop_begins : length (reply_octets r id f ++ body) - 12 < 2 ^ 32
-      → giop.BeginsWith Replies (with_size r (reply_octets r id f ++ body)) (record { order = r; id = id; fate = f })
-      (length (reply_octets r id f))
-  giop_begins fits =
-      let t = reply_puts r id f small is (header_octets r 1) in
-      let P : ℕ → List ℕ → Type 0 =
-      λ p o. Parts p o (λ a. ContextsSpell r p a tt) (λ q b. Parts q b (λ a. LongSpells r q a id) (λ s c. FateSpells r s c f)) in
-      let all : reply_octets r id f ≡ header_octets r 1 ++ t.0 = replied r id f ∙ t.1 in
-      rw all (within Replies r 1 t.0 body P t.2 refl, begins Replies r 1 t.0 body P t.2 refl (rw all at fits))
-
-  pub giop_follows : drop (length (reply_octets r id f)) (with_size r (reply_octets r id f ++ body)) ≡ body
-  giop_follows =
-      let t = reply_puts r id f small is (header_octets r 1) in
-      let P : ℕ → List ℕ → Type 0 =
-      λ p o. Parts p o (λ a. ContextsSpell r p a tt) (λ q b. Parts q b (λ a. LongSpells r q a id) (λ s c. FateSpells r s c f)) in
-      let all : reply_octets r id f ≡ header_octets r 1 ++ t.0 = replied r id f ∙ t.1 in
-      rw all (rest Replies r 1 t.0 body P t.2 refl)
-
-module _ (r : Order) (b : Binding) (op arm : ℕ) (head : Head) (t : Heard) (tells : TellsInOrder r b op arm head t) where
+module _ (m : ℕ) (r : Order) (b : Binding) (op arm : ℕ) (head : Head) (t : Heard) (tells : TellsInOrder m r b op arm head t) where
   abbrev target : Target
   target = target_of b op
 
   abbrev lead : List ℕ
-  lead = giop_lead r target arm head.id
+  lead = giop_lead m r target arm head.id
 
-  same_lead : lead ≡ reply_octets r head.id (giop_fate_of target arm)
-  same_lead = lead_octets r target arm head.id
+  same_lead : lead ≡ reply_octets m r head.id (giop_fate_of target arm)
+  same_lead = lead_octets m r target arm head.id
 
-  begins_with : (more l : List ℕ) → l ≡ reply_octets r head.id (giop_fate_of target arm) → length (l ++ more) ≤ longest_message
-      → giop.BeginsWith Replies (with_size r (l ++ more)) (giop_answer r target arm head.id) (length l)
+  begins_with : (more l : List ℕ) → l ≡ reply_octets m r head.id (giop_fate_of target arm) → length (l ++ more) ≤ longest_message
+      → giop.BeginsWith Replies (with_size r (l ++ more)) (giop_answer m r target arm head.id) (length l)
   begins_with more l is few =
-      let octets : List ℕ = reply_octets r head.id (giop_fate_of target arm) in
+      let octets : List ℕ = reply_octets m r head.id (giop_fate_of target arm) in
       let small : length (octets ++ more) - 12 < 2 ^ 32 = omega (arith, few, ap (λ (o : List ℕ). length (o ++ more)) is) in
-      subst (λ (o : List ℕ). giop.BeginsWith Replies (with_size r (o ++ more)) (giop_answer r target arm head.id) (length o)) (sym is)
-      (giop_begins r head.id (giop_fate_of target arm) more tells.0 tells.1 small)
+      subst (λ (o : List ℕ). giop.BeginsWith Replies (with_size r (o ++ more)) (giop_answer m r target arm head.id) (length o)) (sym is)
+      (replies_begin_with m r head.id (giop_fate_of target arm) more tells.0 tells.1 tells.2 small)
 
   pub in_order_begins : (more : List ℕ) → length (lead ++ more) ≤ longest_message → RepliesInOrder b op (with_size r (lead ++ more)) t
-  in_order_begins more few = (giop_answer r target arm head.id, length lead, begins_with more lead same_lead few, tells.2)
+  in_order_begins more few = (giop_answer m r target arm head.id, length lead, begins_with more lead same_lead few, tells.3)
 
   pub in_order_follows : (more : List ℕ) → drop t.used (with_size r (lead ++ more)) ≡ more
   in_order_follows more =
-      ap (λ (x : Heard). drop x.used (with_size r (lead ++ more))) (sym tells.2)
-      ∙ rw same_lead (giop_follows r head.id (giop_fate_of target arm) more tells.0 tells.1)
+      ap (λ (x : Heard). drop x.used (with_size r (lead ++ more))) (sym tells.3)
+      ∙ rw same_lead (follows_reply m r head.id (giop_fate_of target arm) more tells.0 tells.1 tells.2)
 
   pub in_order_used : t.used ≡ length lead
-  in_order_used = ap (λ (x : Heard). x.used) (sym tells.2)
+  in_order_used = ap (λ (x : Heard). x.used) (sym tells.3)
 
   pub in_order_laid : t.encoding ≡ laid r
-  in_order_laid = ap (λ (x : Heard). x.encoding) (sym tells.2)
+  in_order_laid = ap (λ (x : Heard). x.encoding) (sym tells.3)
 
 -- ---- ONC
 
@@ -124,9 +95,9 @@ mach_long r (suc n) arm head = refl
 
 -- ---- each back end
 
-received_over : (k : Back) (b : Binding) (op arm : ℕ) (head : Head) (t : Heard) → TellsOver k b op arm head t
-    → IsReplyReceived k b op arm head t
-received_over back.Xdr b op arm head t (fits, (word_fits, few), is) =
+received_over : (k : Back) (b : Binding) (m op arm : ℕ) (head : Head) (t : Heard) → TellsOver k b m op arm head t
+    → IsReplyReceived k b m op arm head t
+received_over back.Xdr b m op arm head t (fits, (word_fits, few), is) =
     let lead : List ℕ = onc_leads.reply_lead (exceptions b op) arm head.id in
     record {
       begins = λ rest short. (onc_reply_of b op arm head, onc_sent.replies_read (exceptions b op) arm head.id rest fits word_fits few, is);
@@ -135,23 +106,23 @@ received_over back.Xdr b op arm head t (fits, (word_fits, few), is) =
       used = ap (λ (x : Heard). x.used) (sym is) ∙ onc_long (exceptions b op) arm head.id;
       encoding = ap (λ (x : Heard). x.encoding) (sym is);
     }
-received_over back.CdrBig b op arm head t tells =
+received_over back.CdrBig b m op arm head t tells =
     record {
-      begins = in_order_begins Big b op arm head t tells;
-      follows = in_order_follows Big b op arm head t tells;
+      begins = in_order_begins m Big b op arm head t tells;
+      follows = in_order_follows m Big b op arm head t tells;
       used =
-          in_order_used Big b op arm head t tells;
-      encoding = in_order_laid Big b op arm head t tells;
+          in_order_used m Big b op arm head t tells;
+      encoding = in_order_laid m Big b op arm head t tells;
     }
-received_over back.CdrLittle b op arm head t tells =
+received_over back.CdrLittle b m op arm head t tells =
     record {
-      begins = in_order_begins Little b op arm head t tells;
-      follows = in_order_follows Little b op arm head t tells;
+      begins = in_order_begins m Little b op arm head t tells;
+      follows = in_order_follows m Little b op arm head t tells;
       used =
-          in_order_used Little b op arm head t tells;
-      encoding = in_order_laid Little b op arm head t tells;
+          in_order_used m Little b op arm head t tells;
+      encoding = in_order_laid m Little b op arm head t tells;
     }
-received_over back.Mach b op arm head t (ports, (word_fits, few), is) =
+received_over back.Mach b m op arm head t (ports, (word_fits, few), is) =
     let r : Routine = routine_of b op in
     let arms : ℕ = exceptions b op in
     let lead : List ℕ = mach_leads.reply_lead r arms arm head in
@@ -165,5 +136,5 @@ received_over back.Mach b op arm head t (ports, (word_fits, few), is) =
       encoding = ap (λ (x : Heard). x.encoding) (sym is);
     }
 
-pub reply_received : (b : Binding) (op arm : ℕ) (head : Head) (t : Heard) → Tells b op arm head t → IsReplyReceived b.back b op arm head t
-reply_received b op arm head t tells = received_over b.back b op arm head t tells
+pub reply_received : (b : Binding) (m op arm : ℕ) (head : Head) (t : Heard) → Tells b m op arm head t → IsReplyReceived b.back b m op arm head t
+reply_received b m op arm head t tells = received_over b.back b m op arm head t tells

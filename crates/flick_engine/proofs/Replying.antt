@@ -1,5 +1,5 @@
 -- How messages are answered, by what the parts of the code answer.
-use Rattle.std.proofs.Common.{◌≡◌, inl, inr, ℕ, zero, suc, ◌<◌, List, [], ◌∷◌, Bool, true, false, Some, None, length, map, refl, sym, ap, ◌∙◌, subst}
+use Rattle.std.proofs.Common.{◌≡◌, ◌⊎◌, inl, inr, ℕ, zero, suc, ◌<◌, List, [], ◌∷◌, Bool, true, false, Some, None, length, map, refl, sym, ap, ◌∙◌, subst}
 use Rattle.std.specs.Prelude.{MatchBool, Option, Result, Ok, Err, IfOk, OnOk, slice_get, slice_index_or, if◌then◌else◌}
 use Rattle.std.proofs.lemmas.Result.{IfOk-weaker}
 use Rattle.kit_base.specs.Limits.{longest_message}
@@ -13,6 +13,7 @@ use Rattle.wire_def.specs.declared.outcome.Refusal.{Refusal}
 use Rattle.head_kit.specs.declared.called.Called.{Called}
 use Rattle.pres.specs.declared.ops.Op.{Op}
 use Rattle.pres.specs.Bindings.{Binding}
+use Rattle.giop_head.specs.Header.{IsMinor}
 use Rattle.giop_head.specs.Printed.{header_octets}
 use Rattle.back_mach.specs.declared.call.MachCall.{MachCall}
 use Rattle.back_mach.specs.Refusals as mach
@@ -21,7 +22,7 @@ use Rattle.flick_engine.specs.declared.errors.MessageErr.{MessageErr}
 use Rattle.flick_engine.specs.declared.errors.MessageErr.TheVariants as err
 use Rattle.flick_engine.specs.declared.requests.Request.{Request}
 use Rattle.flick_engine.specs.declared.serve.Served.{Served}
-use Rattle.flick_engine.specs.Backs.{Begins, Stops}
+use Rattle.flick_engine.specs.Backs.{IsMinorOver, Begins, Stops}
 use Rattle.flick_engine.specs.Received.{Answers, IsShort, ReadCall, asked}
 use Rattle.flick_engine.specs.Refusals.{reply_head, long_reply, RefusesOver, is_passed_over, giop_answer, AnswersFault}
 use Rattle.flick_engine.specs.Replies.{reply_message}
@@ -61,17 +62,17 @@ none_there (o ∷ os) (suc n) e = none_there os n e
 abbrev silence : Option (List ℕ)
 silence = None
 
-module _ (b : Binding) (work : ℕ → Val → Val → Type 0) (o : List ℕ) where
+module _ (b : Binding) (m : ℕ) (work : ℕ → Val → Val → Type 0) (o : List ℕ) where
   pub stopped : {E : Type 0} (r : Result Served E) (d : List ℕ) (e : HeadErr) → IsShort o → Stops b.back o e
-      → IfOk r (λ s. AnswersFault b.back b o e (reply_in s d)) → IfOk r (λ s. Serves b work o (reply_in s d))
+      → IfOk r (λ s. AnswersFault b.back m b o e (reply_in s d)) → IfOk r (λ s. Serves b m work o (reply_in s d))
   stopped r d e short stops h =
-      IfOk-weaker r (λ s. AnswersFault b.back b o e (reply_in s d)) (λ s. Serves b work o (reply_in s d)) (λ s a.
+      IfOk-weaker r (λ s. AnswersFault b.back m b o e (reply_in s d)) (λ s. Serves b m work o (reply_in s d)) (λ s a.
       inr (inl (short, e, stops, a))) h
 
   pub begun : {E : Type 0} (r : Result Served E) (d : List ℕ) (c : Called) → IsShort o → Begins b o c
-      → IfOk r (λ s. ServesCall b work o c (reply_in s d)) → IfOk r (λ s. Serves b work o (reply_in s d))
+      → IfOk r (λ s. ServesCall b work o c (reply_in s d)) → IfOk r (λ s. Serves b m work o (reply_in s d))
   begun r d c short begins h =
-      IfOk-weaker r (λ s. ServesCall b work o c (reply_in s d)) (λ s. Serves b work o (reply_in s d)) (λ s a.
+      IfOk-weaker r (λ s. ServesCall b work o c (reply_in s d)) (λ s. Serves b m work o (reply_in s d)) (λ s a.
       inr (inr (short, c, begins, a))) h
 
   pub answered : (c : Called) (x : Option (List ℕ)) (t : Bool) → is_answered b c ≡ t → t ≡ true → AnswersCall b work o c x
@@ -82,45 +83,50 @@ module _ (b : Binding) (work : ℕ → Val → Val → Type 0) (o : List ℕ) wh
   unanswered c t is shown = subst (λ (z : Bool). MatchBool z (AnswersCall b work o c silence) (silence ≡ silence)) (sym (is ∙ shown)) refl
 
   pub refused : {A E : Type 0} (r : Result A E) (c : Called) (e : MessageErr) (x : Option (List ℕ))
-      → OnOk r (RefusesCall b o (reply_head b.back c.head) e x) → OnOk r (ReadCall b o (Err e)) → OnOk r (AnswersCall b work o c x)
+      → OnOk r (RefusesCall b c.minor o (reply_head b.back c.head) e x) → OnOk r (ReadCall b o (Err e)) → OnOk r (AnswersCall b work o c x)
   refused (Ok u) c e x refuses reads = (Err e, reads, refuses)
   refused (Err n) c e x refuses reads = tt
 
   pub requested : {A E : Type 0} (r : Result A E) (c : Called) (q : Request) (x : Option (List ℕ)) → Answers b o (Ok q)
-      → OnOk r (AnswersAs b work o (reply_head b.back c.head) (Ok (asked q)) x) → OnOk r (AnswersCall b work o c x)
+      → OnOk r (AnswersAs b c.minor work o (reply_head b.back c.head) (Ok (asked q)) x) → OnOk r (AnswersCall b work o c x)
   requested (Ok u) c q x is answers = (Ok (asked q), (is (Ok (asked q))).0 refl, answers)
   requested (Err n) c q x is answers = tt
 
-  pub sent : (head : Head) (q : Request) (w : Val) (d : List ℕ) → work q.op (asked q).value w → IsShort (reply_message b q.op head w)
-      → d ≡ reply_message b q.op head w → AnswersAs b work o head (Ok (asked q)) (Some d)
+  pub sent : (head : Head) (q : Request) (w : Val) (d : List ℕ) → work q.op (asked q).value w → IsShort (reply_message b m q.op head w)
+      → d ≡ reply_message b m q.op head w → AnswersAs b m work o head (Ok (asked q)) (Some d)
   sent head q w d does short is = (w, does, inl (short, ap (λ (z : List ℕ). Some z) is))
 
   pub too_long : {A E : Type 0} (r : Result A E) (head : Head) (q : Request) (w : Val) (x : Option (List ℕ)) → work q.op (asked q).value w
-      → longest_message < length (reply_message b q.op head w) → OnOk r (RefusesOver b.back o head (long_reply b.back) x)
-      → OnOk r (AnswersAs b work o head (Ok (asked q)) x)
+      → longest_message < length (reply_message b m q.op head w) → OnOk r (RefusesOver b.back m o head (long_reply b.back) x)
+      → OnOk r (AnswersAs b m work o head (Ok (asked q)) x)
   too_long (Ok u) head q w x does long refuses = (w, does, inr (long, refuses))
   too_long (Err n) head q w x does long refuses = tt
 
 -- ---- messages that are not requests
 
-module _ (r : Order) (o : List ℕ) (e : HeadErr) (t : Bool) (is : t ≡ is_passed_over o e) where
-  pub passed_over : t ≡ true → None ≡ giop_answer r o e
-  passed_over shown = subst (λ (z : Bool). None ≡ (if z then None else Some (header_octets r 6))) (sym (sym is ∙ shown)) refl
+module _ (m : ℕ) (r : Order) (o : List ℕ) (e : HeadErr) (t : Bool) (is : t ≡ is_passed_over o e) where
+  pub passed_over : t ≡ true → None ≡ giop_answer m r o e
+  passed_over shown = subst (λ (z : Bool). None ≡ (if z then None else Some (header_octets m r 6))) (sym (sym is ∙ shown)) refl
 
-  pub reported_wrong : (d : List ℕ) → t ≡ false → d ≡ header_octets r 6 → Some d ≡ giop_answer r o e
+  pub reported_wrong : (d : List ℕ) → t ≡ false → d ≡ header_octets m r 6 → Some d ≡ giop_answer m r o e
   reported_wrong d shown same =
       subst
-      (λ (z : Bool). Some d ≡ (if z then None else Some (header_octets r 6))) (sym (sym is ∙ shown)) (ap (λ (x : List ℕ). Some x) same)
+      (λ (z : Bool). Some d ≡ (if z then None else Some (header_octets m r 6))) (sym (sym is ∙ shown)) (ap (λ (x : List ℕ). Some x) same)
 
 -- ---- replies that refuse
 
-module _ {A E : Type 0} (r : Result A E) (b : Binding) (o : List ℕ) (head : Head) (why : Refusal) (x : Option (List ℕ)) where
-  pub refuses_by : (k : Back) → b.back ≡ k → OnOk r (RefusesOver k o head why x) → OnOk r (RefusesOver b.back o head why x)
-  refuses_by k is h = subst (λ (z : Back). OnOk r (RefusesOver z o head why x)) (sym is) h
+-- the version of a back end is one of GIOP
+pub minor_over : (k : Back) (m : ℕ) → IsMinorOver k m → IsMinor m
+minor_over k m (inl is) = subst IsMinor (sym is) refl
+minor_over k m (inr (is, cdr)) = subst IsMinor (sym is) refl
+
+module _ {A E : Type 0} (r : Result A E) (b : Binding) (m : ℕ) (o : List ℕ) (head : Head) (why : Refusal) (x : Option (List ℕ)) where
+  pub refuses_by : (k : Back) → b.back ≡ k → OnOk r (RefusesOver k m o head why x) → OnOk r (RefusesOver b.back m o head why x)
+  refuses_by k is h = subst (λ (z : Back). OnOk r (RefusesOver z m o head why x)) (sym is) h
 
   pub mach_refuses : (call : MachCall) → b.back ≡ back.Mach → BeginsCall o call → OnOk r (mach.refusal_octets call.id head.remote why ≡ x)
-      → OnOk r (RefusesOver b.back o head why x)
+      → OnOk r (RefusesOver b.back m o head why x)
   mach_refuses call is begins h =
       refuses_by back.Mach is
-      (IfOk-weaker r (λ _. mach.refusal_octets call.id head.remote why ≡ x) (λ _. RefusesOver back.Mach o head why x) (λ u e.
+      (IfOk-weaker r (λ _. mach.refusal_octets call.id head.remote why ≡ x) (λ _. RefusesOver back.Mach m o head why x) (λ u e.
       (call, begins, e)) h)

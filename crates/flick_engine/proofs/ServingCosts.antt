@@ -41,11 +41,11 @@ module _ (x : Coded) (work : ℕ → Val → Val → Type 0) (o : List ℕ) (ans
 
   -- a call that is a request
   pub requested_at : {A E : Type 0} (y : Result A E) (c : Called) (q : Request) → Answers x.binding o (Ok q)
-      → OnOk y (AnswersByCode x work o (reply_head x.binding.back c.head) (asked q) answer spent new)
+      → OnOk y (AnswersByCode x c.minor work o (reply_head x.binding.back c.head) (asked q) answer spent new)
       → OnOk y (AnswersCallByCode x work o c answer spent new)
   requested_at (Ok u) c q is h =
       λ r reads.
-      subst (λ (p : Asked). AnswersByCode x work o (reply_head x.binding.back c.head) p answer spent new)
+      subst (λ (p : Asked). AnswersByCode x c.minor work o (reply_head x.binding.back c.head) p answer spent new)
       (one_request (asked q) r (Ok (asked q)) refl ((is (Ok r)).1 reads)) h
   requested_at (Err n) c q is h = tt
 
@@ -67,19 +67,19 @@ pub stopped_at : {E : Type 0} (x : Coded) (work : ℕ → Val → Val → Type 0
 stopped_at x work o d spent new (Ok s) e stops = λ c starts is. absurd ((one_head x.binding o).not_both c e starts stops)
 stopped_at x work o d spent new (Err n) e stops = tt
 
-module _ (x : Coded) (work : ℕ → Val → Val → Type 0) (o : List ℕ) (head : Head) (q : Request) (w : Val) (spent : Tally) (new : Buf) where
+module _ (x : Coded) (m : ℕ) (work : ℕ → Val → Val → Type 0) (o : List ℕ) (head : Head) (q : Request) (w : Val) (spent : Tally) (new : Buf) where
   -- the reply of a request was sent
-  pub sent_at : work q.op (asked q).value w → IsShort (reply_message x.binding q.op head w)
-      → new.done ≡ reply_message x.binding q.op head w
-      → IsAnsweredByCode x.stubs q.op head w spent new
-      → AnswersByCode x work o head (asked q) (Some new.done) spent new
+  pub sent_at : work q.op (asked q).value w → IsShort (reply_message x.binding m q.op head w)
+      → new.done ≡ reply_message x.binding m q.op head w
+      → IsAnsweredByCode x.stubs m q.op head w spent new
+      → AnswersByCode x m work o head (asked q) (Some new.done) spent new
   sent_at does short is paid = (w, does, inl (short, ap (λ (z : List ℕ). Some z) is), λ few. paid)
 
   -- it is too long, and refused
   pub too_long_at : {A E : Type 0} (y : Result A E) → work q.op (asked q).value w
-      → longest_message < length (reply_message x.binding q.op head w)
-      → OnOk y (RefusesOver x.binding.back o head (long_reply x.binding.back) (Some new.done))
-      → OnOk y (AnswersByCode x work o head (asked q) (Some new.done) spent new)
+      → longest_message < length (reply_message x.binding m q.op head w)
+      → OnOk y (RefusesOver x.binding.back m o head (long_reply x.binding.back) (Some new.done))
+      → OnOk y (AnswersByCode x m work o head (asked q) (Some new.done) spent new)
   too_long_at (Ok u) does long refuses = (w, does, inr (long, refuses), λ short. absurd (omega (arith, long, short)))
   too_long_at (Err n) does long refuses = tt
 

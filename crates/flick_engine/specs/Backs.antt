@@ -1,5 +1,5 @@
--- What differs from one back end to another: its name, how bodies are laid out, and the heads of calls and of replies.
-use Rattle.std.specs.Prelude.{◌≡◌, ◌≤◌, ℕ, zero, suc, true, List, [], length, slice_index_or, Option, Some, None, if◌then◌else◌, codes}
+-- What differs from one back end to another: the words that name it, how bodies are laid out, and the heads of calls and of replies.
+use Rattle.std.specs.Prelude.{◌≡◌, ◌≤◌, ℕ, zero, suc, Bool, true, List, [], length, slice_index_or, Option, Some, None, if◌then◌else◌, codes}
 use Rattle.std.specs.Str.{bytes_eq}
 use Rattle.wire_def.specs.declared.encoding.Back.{Back}
 use Rattle.wire_def.specs.declared.encoding.Back.TheVariants as back
@@ -25,6 +25,7 @@ use Rattle.back_xdr.specs.Reported.{BeginsCall}
 use Rattle.head_kit.specs.Words.{IsWord}
 use Rattle.giop_head.specs.declared.header.Way.TheVariants.{Requests, Replies}
 use Rattle.giop_head.specs.Call.{Request}
+use Rattle.giop_head.specs.Header.{IsMinor}
 use Rattle.giop_head.specs.Heads as giop
 use Rattle.giop_head.specs.Items.{laid}
 use Rattle.giop_head.specs.Laws.{IsLong, IsFate, IsRequest}
@@ -32,7 +33,7 @@ use Rattle.giop_head.specs.Reply as giop_reply
 use Rattle.giop_head.specs.Reported.{ReportedRequest, BeginsRequest, shared_head}
 use Rattle.back_cdr.specs.Leads as cdr_leads
 use Rattle.back_cdr.specs.Seeking as cdr_seeking
-use Rattle.back_cdr.specs.Targets.{Target, target_of}
+use Rattle.back_cdr.specs.Targets.{Target, has_body, target_of}
 use Rattle.back_mach.specs.declared.call.MachCall.{MachCall}
 use Rattle.back_mach.specs.Heads as mach
 use Rattle.back_mach.specs.Laws as mach_laws
@@ -41,16 +42,35 @@ use Rattle.back_mach.specs.Leads as mach_leads
 use Rattle.back_mach.specs.Routines.{routine_in, routine_of}
 use Rattle.back_mach.specs.Seeking as mach_seeking
 use Rattle.back_mach.specs.Reported as mach_reported
-pub use Rattle.stub_codes.specs.Backs.{encoding, lead_over, lead, reply_lead_over, reply_lead, sized, BeginsOver, Begins}
+pub use Rattle.stub_codes.specs.Backs.{encoding, IsMinorOver, lead_over, lead, reply_lead_over, reply_lead, sized, BeginsOver, Begins}
+use Rattle.flick_engine.specs.declared.wire.Wire.{Wire}
+use Rattle.flick_engine.specs.declared.wire.Wire.TheVariants as wires
 use Rattle.flick_engine.specs.Fates.{Heard, fate_of, giop_fate}
 
--- the back end of a name
-abbrev pub back_of : List ℕ → Option Back
-back_of word =
-    if bytes_eq word (codes "xdr") then Some back.Xdr else
-    (if bytes_eq word (codes "cdr-be") then Some back.CdrBig else
-    (if bytes_eq word (codes "cdr-le") then Some back.CdrLittle else
-    (if bytes_eq word (codes "mach") then Some back.Mach else None)))
+-- the format that a word names
+abbrev pub wire_of : List ℕ → Option Wire
+wire_of word =
+    if bytes_eq word (codes "xdr") then Some wires.Xdr else
+    (if bytes_eq word (codes "cdr-be") then Some wires.CdrBig else
+    (if bytes_eq word (codes "cdr-le") then Some wires.CdrLittle else
+    (if bytes_eq word (codes "cdr12-be") then Some wires.Cdr12Big else
+    (if bytes_eq word (codes "cdr12-le") then Some wires.Cdr12Little else
+    (if bytes_eq word (codes "mach") then Some wires.Mach else None)))))
+
+-- its back end
+abbrev pub back_in : Wire → Back
+back_in wires.Xdr = back.Xdr
+back_in wires.CdrBig = back.CdrBig
+back_in wires.CdrLittle = back.CdrLittle
+back_in wires.Cdr12Big = back.CdrBig
+back_in wires.Cdr12Little = back.CdrLittle
+back_in wires.Mach = back.Mach
+
+-- the version of its messages, by the minor number
+abbrev pub minor_in : Wire → ℕ
+minor_in wires.Cdr12Big = 2
+minor_in wires.Cdr12Little = 2
+minor_in _ = 0
 
 -- ---- the heads that are received
 
@@ -80,27 +100,33 @@ AsksFor back.Mach i p o = (c : MachCall) × mach_reported.BeginsCall o c × ((ro
 abbrev pub request_of : Target → ℕ → Request
 request_of t id = record { id = id; wants = t.wants; key = t.key; name = t.name }
 
--- what is reported of its head in this order
-abbrev pub reported_of : Order → Target → ℕ → ReportedRequest
-reported_of r t id = record { head = shared_head id t.wants r; key = t.key; name = t.name; used = length (cdr_leads.lead r t id) }
+-- what is reported of its head in a version and in this order, where a body follows or none does
+abbrev pub reported_of : ℕ → Bool → Order → Target → ℕ → ReportedRequest
+reported_of m body r t id = record {
+  head = shared_head id t.wants r;
+  key = t.key;
+  name = t.name;
+  used = length (cdr_leads.lead m body r t id);
+  minor = m;
+}
 
--- the head of a request in this order says this
-abbrev pub SaysByName : Order → Binding → ℕ → Head → Called → Type 0
-SaysByName r b op head c = IsRequest (request_of (target_of b op) head.id)
-    × (cdr_seeking.called b (reported_of r (target_of b op) head.id) ≡ c)
+-- the head of a request in a version and in this order says this
+abbrev pub SaysByName : ℕ → Order → Binding → ℕ → Head → Called → Type 0
+SaysByName m r b op head c = IsMinor m × IsRequest (request_of (target_of b op) head.id)
+    × (cdr_seeking.called b (reported_of m (has_body b op) r (target_of b op) head.id) ≡ c)
 
--- the head of an operation's call over a back end, whose numbers fit, says this
-abbrev pub SaysOver : Back → Binding → ℕ → Head → Called → Type 0
-SaysOver back.Xdr b op head c = IsWord head.id × AreWords (procedure_of b op)
+-- the head of an operation's call over a back end, in a version, whose numbers fit, says this
+abbrev pub SaysOver : Back → Binding → ℕ → ℕ → Head → Called → Type 0
+SaysOver back.Xdr b m op head c = IsWord head.id × AreWords (procedure_of b op)
     × (xdr_seeking.called b (call_of (procedure_of b op) head.id) ≡ c)
-SaysOver back.CdrBig b op head c = SaysByName Big b op head c
-SaysOver back.CdrLittle b op head c = SaysByName Little b op head c
-SaysOver back.Mach b op head c = IsWord (routine_of b op).id × HasPorts head
+SaysOver back.CdrBig b m op head c = SaysByName m Big b op head c
+SaysOver back.CdrLittle b m op head c = SaysByName m Little b op head c
+SaysOver back.Mach b m op head c = IsWord (routine_of b op).id × HasPorts head
     × (mach_seeking.called b (mach_laws.call_of (routine_of b op) head) ≡ c)
 
 -- the head of an operation's call, whose numbers fit, says this
-abbrev pub Says : Binding → ℕ → Head → Called → Type 0
-Says b op head c = SaysOver b.back b op head c
+abbrev pub Says : Binding → ℕ → ℕ → Head → Called → Type 0
+Says b m op head c = SaysOver b.back b m op head c
 
 -- ---- the heads of replies that are received
 
@@ -182,23 +208,22 @@ abbrev pub giop_fate_of : Target → ℕ → giop_reply.Fate
 giop_fate_of t zero = giop_reply.answer
 giop_fate_of t (suc k) = giop_reply.user (slice_index_or t.ids k [])
 
--- what the head of a GIOP reply in this order is received as
-abbrev pub giop_answer : Order → Target → ℕ → ℕ → giop_reply.Reply
-giop_answer r t k id = record { order = r; id = id; fate = giop_fate_of t k }
+-- what the head of a GIOP reply in a version and in this order is received as
+abbrev pub giop_answer : ℕ → Order → Target → ℕ → ℕ → giop_reply.Reply
+giop_answer m r t k id = record { order = r; minor = m; id = id; fate = giop_fate_of t k }
 
--- the head of a GIOP reply in this order says this
-abbrev pub TellsInOrder : Order → Binding → ℕ → ℕ → Head → Heard → Type 0
-TellsInOrder r b op k head t =
-    IsLong head.id × IsFate (giop_fate_of (target_of b op) k)
-    × (giop_heard b op (giop_answer r (target_of b op) k head.id) (length (cdr_leads.reply_lead r (target_of b op) k head.id)) ≡ t)
+-- the head of a GIOP reply in a version and in this order says this
+abbrev pub TellsInOrder : ℕ → Order → Binding → ℕ → ℕ → Head → Heard → Type 0
+TellsInOrder m r b op k head t = IsMinor m × IsLong head.id × IsFate (giop_fate_of (target_of b op) k)
+    × (giop_heard b op (giop_answer m r (target_of b op) k head.id) (length (cdr_leads.reply_lead m r (target_of b op) k head.id)) ≡ t)
 
--- the head of a reply to an operation with an arm over a back end, whose numbers fit, says this
-abbrev pub TellsOver : Back → Binding → ℕ → ℕ → Head → Heard → Type 0
-TellsOver back.Xdr b op k head t = IsWord head.id × IsArmOf b op k × (heard_over back.Xdr b op (onc_reply_of b op k head) ≡ t)
-TellsOver back.CdrBig b op k head t = TellsInOrder Big b op k head t
-TellsOver back.CdrLittle b op k head t = TellsInOrder Little b op k head t
-TellsOver back.Mach b op k head t = HasPorts head × IsArmOf b op k × (heard_over back.Mach b op (mach_reply_of b op k head) ≡ t)
+-- the head of a reply to an operation with an arm over a back end, in a version, whose numbers fit, says this
+abbrev pub TellsOver : Back → Binding → ℕ → ℕ → ℕ → Head → Heard → Type 0
+TellsOver back.Xdr b m op k head t = IsWord head.id × IsArmOf b op k × (heard_over back.Xdr b op (onc_reply_of b op k head) ≡ t)
+TellsOver back.CdrBig b m op k head t = TellsInOrder m Big b op k head t
+TellsOver back.CdrLittle b m op k head t = TellsInOrder m Little b op k head t
+TellsOver back.Mach b m op k head t = HasPorts head × IsArmOf b op k × (heard_over back.Mach b op (mach_reply_of b op k head) ≡ t)
 
 -- the head of a reply to an operation with an arm, whose numbers fit, says this
-abbrev pub Tells : Binding → ℕ → ℕ → Head → Heard → Type 0
-Tells b op k head t = TellsOver b.back b op k head t
+abbrev pub Tells : Binding → ℕ → ℕ → ℕ → Head → Heard → Type 0
+Tells b m op k head t = TellsOver b.back b m op k head t

@@ -27,25 +27,25 @@ abbrev pub IsSentByCode : List Stub → ℕ → Head → Val → Tally → Buf �
 IsSentByCode stubs op head v spent new =
     IsRaised (sent_cost stubs op head v) none new.tally × IsRaised (sent_cost stubs op head v) spent new.spent
 
--- what the code costs that sends an operation's reply: that of the arm that the value is of
-abbrev pub answer_cost : List Stub → ℕ → Head → Val → Option Cost
-answer_cost stubs op head (arm (pos k) w) = reply_cost stubs op k head w
-answer_cost stubs op head _ = None
+-- what the code costs that sends an operation's reply in a version: that of the arm that the value is of
+abbrev pub answer_cost : List Stub → ℕ → ℕ → Head → Val → Option Cost
+answer_cost stubs m op head (arm (pos k) w) = reply_cost stubs op k m head w
+answer_cost stubs m op head _ = None
 
--- the same of a reply to an operation, by the code of its arm
-abbrev pub IsAnsweredByCode : List Stub → ℕ → Head → Val → Tally → Buf → Type 0
-IsAnsweredByCode stubs op head v spent new =
-    IsRaised (answer_cost stubs op head v) none new.tally × IsRaised (answer_cost stubs op head v) spent new.spent
+-- the same of a reply to an operation, by the code of its arm in a version
+abbrev pub IsAnsweredByCode : List Stub → ℕ → ℕ → Head → Val → Tally → Buf → Type 0
+IsAnsweredByCode stubs m op head v spent new =
+    IsRaised (answer_cost stubs m op head v) none new.tally × IsRaised (answer_cost stubs m op head v) spent new.spent
 
 -- the code of the arm that a value is of ensures the room for all that it appends for the reply
-abbrev pub IsCoveredAnswer : Coded → ℕ → Head → Val → Type 0
-IsCoveredAnswer x op head (arm (pos k) w) = IsCoveredReply x op k head w
-IsCoveredAnswer x op head _ = ⊥
+abbrev pub IsCoveredAnswer : Coded → ℕ → ℕ → Head → Val → Type 0
+IsCoveredAnswer x m op head (arm (pos k) w) = IsCoveredReply x op k m head w
+IsCoveredAnswer x m op head _ = ⊥
 
 -- it has a cost for it, within what the message allows
-abbrev pub IsSparingAnswer : Coded → ℕ → Head → Val → Type 0
-IsSparingAnswer x op head (arm (pos k) w) = IsSparingReply x op k head w
-IsSparingAnswer x op head _ = ⊥
+abbrev pub IsSparingAnswer : Coded → ℕ → ℕ → Head → Val → Type 0
+IsSparingAnswer x m op head (arm (pos k) w) = IsSparingReply x op k m head w
+IsSparingAnswer x m op head _ = ⊥
 
 -- a view after the head of a message, whose octets took one test
 abbrev pub after_head : ℕ → View → View

@@ -33,9 +33,9 @@ IsSomething = (b : Binding) → ((op : ℕ) → IsSound (request_type b op))
 
 -- the message of an operation that its call names is read as the request
 abbrev pub IsReadBack : Type 0
-IsReadBack = (b : Binding) (op : ℕ) (head : Head) (v : Val) (c : Called) → Says b op head c → c.naming ≡ Operation op
-    → IsWellTyped (request_type b op) v → IsShort (message b op head v)
-    → ReadCall b (message b op head v) (Ok (record { op = op; head = c.head; value = v }))
+IsReadBack = (b : Binding) (m op : ℕ) (head : Head) (v : Val) (c : Called) → Says b m op head c → c.naming ≡ Operation op
+    → IsWellTyped (request_type b op) v → IsShort (message b m op head v)
+    → ReadCall b (message b m op head v) (Ok (record { op = op; head = c.head; value = v }))
 
 -- each operation of a binding is one of its unit, and what goes into it are the parameters of that one
 abbrev pub AreTheUnits : Type 0
@@ -65,16 +65,16 @@ IsReplySomething = (b : Binding) (op : ℕ) → ((k : ℕ) → IsSound (arm_type
 
 -- the message of a reply whose head tells its arm is read as the reply
 abbrev pub IsReplyReadBack : Type 0
-IsReplyReadBack = (b : Binding) (op k : ℕ) (head : Head) (w : Val) (t : Heard) → Tells b op k head t → t.fate ≡ Arm k
-    → IsWellTyped (arm_type b op k) w → IsShort (arm_message b op k head w)
-    → ReadReply b op (arm_message b op k head w) (Ok (record { head = t.head; came = answered (arm (pos k) w) }))
+IsReplyReadBack = (b : Binding) (m op k : ℕ) (head : Head) (w : Val) (t : Heard) → Tells b m op k head t → t.fate ≡ Arm k
+    → IsWellTyped (arm_type b op k) w → IsShort (arm_message b m op k head w)
+    → ReadReply b op (arm_message b m op k head w) (Ok (record { head = t.head; came = answered (arm (pos k) w) }))
 
 -- how a message is answered is determined, where the work has one reply to each request
 abbrev pub IsServingDetermined : Type 0
-IsServingDetermined = (b : Binding) (work : ℕ → Val → Val) (o : List ℕ) (x y : Option (List ℕ))
-    → Serves b (gives work) o x → Serves b (gives work) o y → x ≡ y
+IsServingDetermined = (b : Binding) (m : ℕ) (work : ℕ → Val → Val) (o : List ℕ) (x y : Option (List ℕ))
+    → Serves b m (gives work) o x → Serves b m (gives work) o y → x ≡ y
 
 -- then each message is answered in some way, if the types of requests are sound
 abbrev pub IsServingSomething : Type 0
-IsServingSomething = (b : Binding) (work : ℕ → Val → Val) → ((op : ℕ) → IsSound (request_type b op))
-    → (o : List ℕ) → AreOctets o → (x : Option (List ℕ)) × Serves b (gives work) o x
+IsServingSomething = (b : Binding) (m : ℕ) (work : ℕ → Val → Val) → ((op : ℕ) → IsSound (request_type b op))
+    → (o : List ℕ) → AreOctets o → (x : Option (List ℕ)) × Serves b m (gives work) o x

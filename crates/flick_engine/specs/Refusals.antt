@@ -21,7 +21,7 @@ use Rattle.giop_head.specs.declared.header.Way.TheVariants.{Asks}
 use Rattle.giop_head.specs.Heads.{StopsWith}
 use Rattle.giop_head.specs.Items.{flag}
 use Rattle.giop_head.specs.Printed as giop
-use Rattle.giop_head.specs.Reported.{sought, BeginsCall}
+use Rattle.giop_head.specs.Reported.{sought, addressed, BeginsCall}
 use Rattle.back_cdr.specs.Targets.{order_of}
 use Rattle.back_mach.specs.declared.call.MachCall.{MachCall}
 use Rattle.back_mach.specs.Refusals as mach
@@ -125,12 +125,12 @@ IsOwnOver back.CdrBig why = giop.IsOwn why
 IsOwnOver back.CdrLittle why = giop.IsOwn why
 IsOwnOver back.Mach why = mach.IsOwn why
 
--- the reply with this head that refuses the call of a message; over Mach its id is from that of the call
-abbrev pub RefusesOver : Back → List ℕ → Head → Refusal → Option (List ℕ) → Type 0
-RefusesOver back.Xdr o head why x = xdr.refusal_octets head.id why ≡ x
-RefusesOver back.CdrBig o head why x = giop.refusal_octets head.order head.id why ≡ x
-RefusesOver back.CdrLittle o head why x = giop.refusal_octets head.order head.id why ≡ x
-RefusesOver back.Mach o head why x = (c : MachCall) × mach_reported.BeginsCall o c × (mach.refusal_octets c.id head.remote why ≡ x)
+-- the reply with this head that refuses the call of a message, in a version; over Mach its id is from that of the call
+abbrev pub RefusesOver : Back → ℕ → List ℕ → Head → Refusal → Option (List ℕ) → Type 0
+RefusesOver back.Xdr m o head why x = xdr.refusal_octets head.id why ≡ x
+RefusesOver back.CdrBig m o head why x = giop.refusal_octets m head.order head.id why ≡ x
+RefusesOver back.CdrLittle m o head why x = giop.refusal_octets m head.order head.id why ≡ x
+RefusesOver back.Mach m o head why x = (c : MachCall) × mach_reported.BeginsCall o c × (mach.refusal_octets c.id head.remote why ≡ x)
 
 -- ---- what a message is answered whose head is not one of a call
 
@@ -160,29 +160,39 @@ has_such_type o = nat_lt 7 (length o) && asks_nothing (slice_index o 7)
 abbrev pub is_passed_over : List ℕ → HeadErr → Bool
 is_passed_over o e = is_type e && has_such_type o
 
--- any other message is answered by a MessageError, which is a header alone
-abbrev pub giop_answer : Order → List ℕ → HeadErr → Option (List ℕ)
-giop_answer r o e = if is_passed_over o e then None else Some (giop.header_octets r 6)
+-- any other message is answered by a MessageError in a version, which is a header alone
+abbrev pub giop_answer : ℕ → Order → List ℕ → HeadErr → Option (List ℕ)
+giop_answer m r o e = if is_passed_over o e then None else Some (giop.header_octets m r 6)
 
 -- an object has the key: there is an interface of that name
 abbrev pub has_object : Binding → List ℕ → Bool
 has_object b key = list_any (λ (i : PlainInterface). bytes_eq i.name key) b.unit.interfaces
 
--- a LocateReply: the id of the search, and whether the object is here
-abbrev pub locate_octets : Order → ℕ → Bool → List ℕ
-locate_octets r id here = giop.with_size r (giop.then_long r (flag here) (giop.then_long r id (giop.header_octets r 4)))
+-- a LocateReply in a version: the id of the search, and whether the object is here
+abbrev pub locate_octets : ℕ → Order → ℕ → Bool → List ℕ
+locate_octets m r id here = giop.with_size r (giop.then_long r (flag here) (giop.then_long r id (giop.header_octets m r 4)))
 
--- a search for an object is answered by a LocateReply
+-- a search for an object is answered by a LocateReply, in the version of the search
 abbrev pub AnswersSearch : Order → Binding → List ℕ → Option (List ℕ) → Type 0
-AnswersSearch r b o x = (id : ℕ) × (key : List ℕ) × BeginsCall o (sought id key) × (x ≡ Some (locate_octets r id (has_object b key)))
+AnswersSearch r b o x = (id : ℕ) × (key : List ℕ) × (m : ℕ) × BeginsCall o (sought id key m)
+    × (x ≡ Some (locate_octets m r id (has_object b key)))
 
--- a message over GIOP that is not a request
-abbrev pub AnswersOther : Order → Binding → List ℕ → Option (List ℕ) → Type 0
-AnswersOther r b o x = AnswersSearch r b o x ⊎ ((e : HeadErr) × StopsWith Asks o e × (x ≡ giop_answer r o e))
+-- a request whose object is named otherwise than by a key is asked to name it so, where it wants a reply
+abbrev pub addressing_answer : Order → Head → Option (List ℕ)
+addressing_answer r h = if h.wants then Some (giop.addressing_octets r h.id) else None
 
--- a message whose head stops with this fault
-abbrev pub AnswersFault : Back → Binding → List ℕ → HeadErr → Option (List ℕ) → Type 0
-AnswersFault back.Xdr b o e x = x ≡ onc_answer o e
-AnswersFault back.CdrBig b o e x = AnswersOther Big b o x
-AnswersFault back.CdrLittle b o e x = AnswersOther Little b o x
-AnswersFault back.Mach b o e x = x ≡ None
+-- such a request
+abbrev pub AnswersAddressing : Order → List ℕ → Option (List ℕ) → Type 0
+AnswersAddressing r o x = (h : Head) × BeginsCall o (addressed h) × (x ≡ addressing_answer r h)
+
+-- a message over GIOP that is not a request by a key: a search, a request by another name, or a fault, which is answered in this version
+abbrev pub AnswersOther : ℕ → Order → Binding → List ℕ → Option (List ℕ) → Type 0
+AnswersOther m r b o x =
+    AnswersSearch r b o x ⊎ (AnswersAddressing r o x ⊎ ((e : HeadErr) × StopsWith Asks o e × (x ≡ giop_answer m r o e)))
+
+-- a message whose head stops with this fault, where faults are answered in this version
+abbrev pub AnswersFault : Back → ℕ → Binding → List ℕ → HeadErr → Option (List ℕ) → Type 0
+AnswersFault back.Xdr m b o e x = x ≡ onc_answer o e
+AnswersFault back.CdrBig m b o e x = AnswersOther m Big b o x
+AnswersFault back.CdrLittle m b o e x = AnswersOther m Little b o x
+AnswersFault back.Mach m b o e x = x ≡ None

@@ -55,51 +55,51 @@ IsRefused b o err.NoInterface why = NoInterfaceOver b.back b o why
 IsRefused b o err.NoOperation why = why ≡ no_operation b.back
 IsRefused b o _ why = why ≡ bad_body b.back
 
--- the message of a reply, or where that would be too long a refusal
-abbrev pub Replies : Binding → List ℕ → Head → ℕ → Val → Option (List ℕ) → Type 0
-Replies b o head op w x =
-    (IsShort (reply_message b op head w) × (x ≡ Some (reply_message b op head w)))
-    ⊎ ((longest_message < length (reply_message b op head w)) × RefusesOver b.back o head (long_reply b.back) x)
+-- the message of a reply in a version, or where that would be too long a refusal
+abbrev pub Replies : Binding → ℕ → List ℕ → Head → ℕ → Val → Option (List ℕ) → Type 0
+Replies b m o head op w x =
+    (IsShort (reply_message b m op head w) × (x ≡ Some (reply_message b m op head w)))
+    ⊎ ((longest_message < length (reply_message b m op head w)) × RefusesOver b.back m o head (long_reply b.back) x)
 
--- the reply that refuses a call, which has this head
-abbrev pub RefusesCall : Binding → List ℕ → Head → MessageErr → Option (List ℕ) → Type 0
-RefusesCall b o head e x = (why : Refusal) × IsRefused b o e why × RefusesOver b.back o head why x
+-- the reply in a version that refuses a call, which has this head
+abbrev pub RefusesCall : Binding → ℕ → List ℕ → Head → MessageErr → Option (List ℕ) → Type 0
+RefusesCall b m o head e x = (why : Refusal) × IsRefused b o e why × RefusesOver b.back m o head why x
 
--- a call is answered by a reply with this head, according to what its message is
-abbrev pub AnswersAs : Binding → Work → List ℕ → Head → Result Asked MessageErr → Option (List ℕ) → Type 0
-AnswersAs b work o head (Err e) x = RefusesCall b o head e x
-AnswersAs b work o head (Ok r) x = (w : Val) × work r.op r.value w × Replies b o head r.op w x
+-- a call is answered by a reply in a version with this head, according to what its message is
+abbrev pub AnswersAs : Binding → ℕ → Work → List ℕ → Head → Result Asked MessageErr → Option (List ℕ) → Type 0
+AnswersAs b m work o head (Err e) x = RefusesCall b m o head e x
+AnswersAs b m work o head (Ok r) x = (w : Val) × work r.op r.value w × Replies b m o head r.op w x
 
--- a call that is answered
+-- a call that is answered, in its own version
 abbrev pub AnswersCall : Binding → Work → List ℕ → Called → Option (List ℕ) → Type 0
-AnswersCall b work o c x = (r : Result Asked MessageErr) × ReadCall b o r × AnswersAs b work o (reply_head b.back c.head) r x
+AnswersCall b work o c x = (r : Result Asked MessageErr) × ReadCall b o r × AnswersAs b c.minor work o (reply_head b.back c.head) r x
 
 -- a message that begins with the head of a call
 abbrev pub ServesCall : Binding → Work → List ℕ → Called → Option (List ℕ) → Type 0
 ServesCall b work o c x = MatchBool (is_answered b c) (AnswersCall b work o c x) (x ≡ None)
 
--- what a message is answered: nothing if it is too long; else by its head, or by the first fault of that
-abbrev pub Serves : Binding → Work → List ℕ → Option (List ℕ) → Type 0
-Serves b work o x =
+-- what a message is answered: nothing if it is too long; else by its head, or in this version by the first fault of that
+abbrev pub Serves : Binding → ℕ → Work → List ℕ → Option (List ℕ) → Type 0
+Serves b m work o x =
     ((longest_message < length o) × (x ≡ None))
-    ⊎ (IsShort o × (e : HeadErr) × Stops b.back o e × AnswersFault b.back b o e x)
+    ⊎ (IsShort o × (e : HeadErr) × Stops b.back o e × AnswersFault b.back m b o e x)
     ⊎ (IsShort o × (c : Called) × Begins b o c × ServesCall b work o c x)
 
 -- ---- what it costs a buffer
 
--- where the message of a reply is not too long, the buffer's counts are exactly those of a run of the code of its arm
-abbrev pub RepliesByCode : Coded → Head → ℕ → Val → Tally → Buf → Type 0
-RepliesByCode x head op w spent new = IsShort (reply_message x.binding op head w) → IsAnsweredByCode x.stubs op head w spent new
+-- where the message of a reply is not too long, the buffer's counts are exactly those of a run of the code of its arm in a version
+abbrev pub RepliesByCode : Coded → ℕ → Head → ℕ → Val → Tally → Buf → Type 0
+RepliesByCode x m head op w spent new = IsShort (reply_message x.binding m op head w) → IsAnsweredByCode x.stubs m op head w spent new
 
 -- so is a request answered, by a reply that the work gives and that was sent
-abbrev pub AnswersByCode : Coded → Work → List ℕ → Head → Asked → Option (List ℕ) → Tally → Buf → Type 0
-AnswersByCode x work o head r answer spent new = (w : Val) × work r.op r.value w × Replies x.binding o head r.op w answer
-    × RepliesByCode x head r.op w spent new
+abbrev pub AnswersByCode : Coded → ℕ → Work → List ℕ → Head → Asked → Option (List ℕ) → Tally → Buf → Type 0
+AnswersByCode x m work o head r answer spent new = (w : Val) × work r.op r.value w × Replies x.binding m o head r.op w answer
+    × RepliesByCode x m head r.op w spent new
 
--- a call, if its message is a request
+-- a call, if its message is a request, in its own version
 abbrev pub AnswersCallByCode : Coded → Work → List ℕ → Called → Option (List ℕ) → Tally → Buf → Type 0
 AnswersCallByCode x work o c answer spent new = (r : Asked) → ReadCall x.binding o (Ok r)
-    → AnswersByCode x work o (reply_head x.binding.back c.head) r answer spent new
+    → AnswersByCode x c.minor work o (reply_head x.binding.back c.head) r answer spent new
 
 -- a message, if it begins with the head of a call that is answered
 abbrev pub ServesByCode : Coded → Work → List ℕ → Option (List ℕ) → Tally → Buf → Type 0

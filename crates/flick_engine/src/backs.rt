@@ -3,7 +3,7 @@
 ghost use Rattle.std.specs.Prelude.{◌≡◌, ◌<◌, length, IfOk, IfErr};
 ghost use Rattle.head_kit.specs.Calls.{IsBelow};
 ghost use Rattle.back_cdr.specs.Targets.{IsCdr};
-ghost use Rattle.flick_engine.specs.Backs.{back_of, Begins, Stops, encoding_by, heard, BeginsReply, ReplyStops};
+ghost use Rattle.flick_engine.specs.Backs.{Begins, Stops, encoding_by, heard, BeginsReply, ReplyStops};
 
 use crate::engine::Engine;
 use crate::reply_leads::reply_id;
@@ -11,25 +11,6 @@ use back_mach::routines::routine_of;
 use head_arms::exceptions_of;
 use head_kit::Called;
 use wire_def::{Back, Encoding, Head, HeadErr, Order, ReplyHead};
-
-/// The back end of a name, if it is one.
-pub fn back_of(word: &[u8]) -> Option<Back>
-    ensures { result ≡ back_of word.now }
-{
-    if word == b"xdr".as_slice() {
-        return Some(Back::Xdr);
-    }
-    if word == b"cdr-be".as_slice() {
-        return Some(Back::CdrBig);
-    }
-    if word == b"cdr-le".as_slice() {
-        return Some(Back::CdrLittle);
-    }
-    if word == b"mach".as_slice() {
-        return Some(Back::Mach);
-    }
-    None
-}
 
 impl Engine {
     /// Reads the head of a call from the first octets of a message.

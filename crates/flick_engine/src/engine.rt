@@ -4,7 +4,7 @@ ghost use Rattle.std.specs.Prelude.{◌≡◌, ◌<◌, length, IfOk, Some, opti
 ghost use Rattle.stub_codes.specs.Receiving.{Receives};
 ghost use Rattle.stub_codes.specs.Sending.{Sends};
 ghost use Rattle.stub_codes.specs.Stubs.{IsCoded, reply_code_at};
-ghost use Rattle.flick_engine.specs.Backs.{encoding, lead, reply_lead};
+ghost use Rattle.flick_engine.specs.Backs.{encoding, IsMinorOver, lead, reply_lead};
 ghost use Rattle.flick_engine.specs.Messages.{request_type};
 ghost use Rattle.back_cdr.specs.Names.{AreNamesOver};
 ghost use Rattle.flick_engine.specs.Replies.{HasArm, arm_type};
@@ -43,14 +43,26 @@ impl Model for Engine {
 
 impl Engine {
     /// An engine for what is bound, with the stub code of each operation, and the names by which requests find
-    /// them. Time and memory are linear in the code that comes out.
+    /// them. Over CDR it sends version 1.0 of GIOP. Time and memory are linear in the code that comes out.
     pub fn compile(alloc: Global, bound: Bound) -> Result<Engine, NoMemory>
         ensures binding { IfOk result (λ e. e.binding ≡ bound) }
+        ensures minor { IfOk result (λ e. e.minor ≡ 0) }
+        ensures coded { IfOk result IsCoded }
+    {
+        Engine::compile_minor(alloc, bound, 0)
+    }
+
+    /// The same for messages of a version, by its minor number: 0, or over CDR also 2. Messages of each version are
+    /// received.
+    pub fn compile_minor(alloc: Global, bound: Bound, minor: u8) -> Result<Engine, NoMemory>
+        requires { IsMinorOver bound.back minor }
+        ensures binding { IfOk result (λ e. e.binding ≡ bound) }
+        ensures minor { IfOk result (λ e. e.minor ≡ minor) }
         ensures coded { IfOk result IsCoded }
     {
         let names = Names::of(alloc, &bound)?;
         Ok(Engine {
-            stubs: Codes::compile(alloc, bound)?,
+            stubs: Codes::compile(alloc, bound, minor)?,
             names,
         })
     }
@@ -75,7 +87,7 @@ impl Engine {
     pub fn send_code(&self, op: u32) -> &SendCode
         requires { op < length self.now.binding.ops }
         ensures found { option_map (λ s. s.send) (slice_get self.now.stubs op) ≡ Some result.now }
-        ensures sends { Sends self.now.binding.back (lead self.now.binding op)
+        ensures sends { Sends self.now.binding.back (lead self.now.binding self.now.minor op)
             (request_type self.now.binding op) result.now }
     {
         self.stubs.send_code(op)
@@ -91,15 +103,24 @@ impl Engine {
         self.stubs.recv_code(op)
     }
 
-    /// The code that sends an operation's replies with an arm: 0 is the answer, k the k-th exception.
-    pub fn reply_code(&self, op: u32, arm: u32) -> &SendCode
+    /// The code that sends an operation's replies with an arm in a version: arm 0 is the answer, k the k-th exception.
+    pub fn reply_code(&self, op: u32, arm: u32, minor: u8) -> &SendCode
         requires op { op < length self.now.binding.ops }
         requires arm { HasArm self.now.binding op arm }
-        ensures found { reply_code_at self.now.stubs op arm ≡ Some result.now }
-        ensures sends { Sends self.now.binding.back (reply_lead self.now.binding op arm)
+        requires minor { IsMinorOver self.now.binding.back minor }
+        ensures found { reply_code_at self.now.stubs op arm minor ≡ Some result.now }
+        ensures sends { Sends self.now.binding.back (reply_lead self.now.binding minor op arm)
             (arm_type self.now.binding op arm) result.now }
     {
-        self.stubs.reply_code(op, arm)
+        self.stubs.reply_code(op, arm, minor)
+    }
+
+    /// The version of the messages that are sent, by its minor number.
+    pub(crate) fn minor(&self) -> u8
+        ensures value { result ≡ self.now.minor }
+        ensures is { IsMinorOver self.now.binding.back result }
+    {
+        self.stubs.minor()
     }
 
     /// The names by which requests find operations.

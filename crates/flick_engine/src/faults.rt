@@ -9,7 +9,7 @@ ghost use Rattle.giop_head.specs.declared.header.Way.TheVariants.{Requests};
 ghost use Rattle.giop_head.specs.Heads.{StopsWith};
 ghost use Rattle.flick_engine.specs.Backs.{Stops};
 ghost use Rattle.flick_engine.specs.Refusals as refusals;
-ghost use Rattle.flick_engine.specs.Refusals.{AnswersFault, AnswersOther, has_object, onc_answer};
+ghost use Rattle.flick_engine.specs.Refusals.{AnswersFault, AnswersOther, addressing_answer, has_object, onc_answer};
 ghost use Rattle.flick_engine.specs.Serving as serving;
 ghost use Rattle.flick_engine.specs.Serving.{reply_in};
 
@@ -108,6 +108,27 @@ fn has_name(interfaces: &[Interface], key: &[u8]) -> bool
     false
 }
 
+/// Answers a request whose object is named otherwise than by a key, in an empty buffer: the client is to name it so.
+fn answer_addressing(order: Order, head: &Head, buf: &mut SendBuf) -> Result<Served, NoMemory>
+    requires { buf.old.done ≡ [] }
+    ensures serves { IfOk result (λ s. reply_in s buf.new.done ≡ addressing_answer order head.now) }
+    ensures silent { (result ≡ Ok Served.Silent) → buf.new.done ≡ [] }
+    ensures spent { NoneFell buf.old.spent buf.new.spent }
+{
+    if !head.wants {
+        return Ok(Served::Silent);
+    }
+    let reply = Head {
+        id: head.id,
+        remote: 0,
+        local: 0,
+        wants: true,
+        order,
+    };
+    giop_head::put_addressing(&reply, buf)?;
+    Ok(Served::Reply)
+}
+
 impl Engine {
     /// Whether an operation has a reply.
     fn has_reply(&self, op: u32) -> bool
@@ -156,7 +177,7 @@ impl Engine {
         has_name(self.bound().unit().interfaces().as_slice(), key)
     }
 
-    /// Answers a GIOP message that is not a request, in an empty buffer.
+    /// Answers a GIOP message that is not a request by a key, in an empty buffer.
     fn answer_giop(
         &self,
         order: Order,
@@ -167,21 +188,22 @@ impl Engine {
         requires stops { StopsWith Requests message.now fault }
         requires empty { buf.old.done ≡ [] }
         ensures serves { IfOk result (λ s.
-            AnswersOther order self.now.binding message.now (reply_in s buf.new.done)) }
+            AnswersOther self.now.minor order self.now.binding message.now (reply_in s buf.new.done)) }
         ensures silent { (result ≡ Ok Served.Silent) → buf.new.done ≡ [] }
         ensures spent { NoneFell buf.old.spent buf.new.spent }
     {
         match giop_head::read_call(message) {
-            Ok(GiopCall::Locate { id, key }) => {
-                put_locate_reply(order, id, self.has_object(key), buf)?;
+            Ok(GiopCall::Locate { id, key, minor }) => {
+                put_locate_reply(minor, order, id, self.has_object(key), buf)?;
                 Ok(Served::Reply)
             }
+            Ok(GiopCall::Addressing { head }) => answer_addressing(order, &head, buf),
             Ok(GiopCall::Request { .. }) => unreachable!(),
             Err(fault) => {
                 if is_passed_over(message, fault) {
                     return Ok(Served::Silent);
                 }
-                put_message_error(order, buf)?;
+                put_message_error(self.minor(), order, buf)?;
                 Ok(Served::Reply)
             }
         }
@@ -197,7 +219,8 @@ impl Engine {
         requires stops { Stops self.now.binding.back message.now fault }
         requires empty { buf.old.done ≡ [] }
         ensures serves { IfOk result (λ s.
-            AnswersFault self.now.binding.back self.now.binding message.now fault (reply_in s buf.new.done)) }
+            AnswersFault self.now.binding.back self.now.minor self.now.binding message.now fault
+            (reply_in s buf.new.done)) }
         ensures silent { (result ≡ Ok Served.Silent) → buf.new.done ≡ [] }
         ensures spent { NoneFell buf.old.spent buf.new.spent }
     {

@@ -17,8 +17,8 @@ mod requests;
 mod serve;
 mod unmarshal;
 mod unmarshal_reply;
+mod wire;
 
-pub use backs::back_of;
 pub use engine::Engine;
 pub use errors::{MarshalErr, MessageErr};
 pub use laws::{
@@ -28,3 +28,4 @@ pub use laws::{
 pub use replies::Reply;
 pub use requests::Request;
 pub use serve::Served;
+pub use wire::{Wire, wire_of};

@@ -29,9 +29,11 @@ impl Engine {
         requires op { op < length self.now.binding.ops }
         requires typed { IsWellTyped (request_type self.now.binding op) (seen value.now) }
         // What `Ok` holds.
-        ensures ok { OnOk result (buf.new.done ≡ message self.now.binding op head.now (seen value.now)) }
+        ensures ok { OnOk result
+            (buf.new.done ≡ message self.now.binding self.now.minor op head.now (seen value.now)) }
         ensures short { OnOk result
-            (length (message self.now.binding op head.now (seen value.now)) ≤ longest_message) }
+            (length (message self.now.binding self.now.minor op head.now (seen value.now))
+            ≤ longest_message) }
         ensures cost { OnOk result
             (IsSentByCode self.now.stubs op head.now (seen value.now) buf.old.spent buf.new) }
         // What its code does.
@@ -39,7 +41,8 @@ impl Engine {
         ensures sparing { IsSparingRequest self.now op head.now (seen value.now) }
         // When each error comes.
         ensures long { (result ≡ Err MarshalErr.Long)
-            → longest_message < length (message self.now.binding op head.now (seen value.now)) }
+            → longest_message
+            < length (message self.now.binding self.now.minor op head.now (seen value.now)) }
         // What stays the same.
         ensures err { OnErr result (buf.new.done ≡ []) }
         ensures spent { NoneFell buf.old.spent buf.new.spent }

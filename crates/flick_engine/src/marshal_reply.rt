@@ -7,6 +7,7 @@ ghost use Rattle.mint.specs.Kinds.{in_range};
 ghost use Rattle.mint.specs.Typed.{IsWellTyped};
 ghost use Rattle.mint.specs.Values.{arm, seen};
 ghost use Rattle.raw_buf.specs.Buf.{NoneFell};
+ghost use Rattle.flick_engine.specs.Backs.{IsMinorOver};
 ghost use Rattle.flick_engine.specs.Costs.{IsAnsweredByCode, IsCoveredAnswer, IsSparingAnswer};
 ghost use Rattle.flick_engine.specs.Received.{IsShort};
 ghost use Rattle.flick_engine.specs.Replies.{HasArm, arm_type, reply_type, reply_message};
@@ -21,7 +22,7 @@ use wire_def::Head;
 impl Engine {
     /// Makes the message of a reply to an operation in a buffer by the stub code of its arm, whatever the
     /// buffer held; where there is none, the buffer is empty. What the buffer spent is kept. The value is an
-    /// arm of the operation's reply: 0 is the answer, k the k-th exception, which CDR alone tells.
+    /// arm of the operation's reply: 0 is the answer, k the k-th exception.
     pub fn marshal_reply(
         &self,
         op: u32,
@@ -34,21 +35,55 @@ impl Engine {
         requires typed { IsWellTyped (reply_type self.now.binding op) (seen value.now) }
         // What `Ok` holds.
         ensures ok { OnOk result (buf.new.done
-            ≡ reply_message self.now.binding op head.now (seen value.now)) }
-        ensures short { OnOk result (IsShort (reply_message self.now.binding op head.now (seen value.now))) }
+            ≡ reply_message self.now.binding self.now.minor op head.now (seen value.now)) }
+        ensures short { OnOk result
+            (IsShort (reply_message self.now.binding self.now.minor op head.now (seen value.now))) }
         ensures cost { OnOk result
-            (IsAnsweredByCode self.now.stubs op head.now (seen value.now) buf.old.spent buf.new) }
+            (IsAnsweredByCode self.now.stubs self.now.minor op head.now (seen value.now)
+            buf.old.spent buf.new) }
         // What its code does.
-        ensures covered { IsCoveredAnswer self.now op head.now (seen value.now) }
-        ensures sparing { IsSparingAnswer self.now op head.now (seen value.now) }
+        ensures covered { IsCoveredAnswer self.now self.now.minor op head.now (seen value.now) }
+        ensures sparing { IsSparingAnswer self.now self.now.minor op head.now (seen value.now) }
         // When it is not made, and what stays.
         ensures err { OnErr result (buf.new.done ≡ []) }
         ensures long { (result ≡ Err MarshalErr.Long)
-            → longest_message < length (reply_message self.now.binding op head.now (seen value.now)) }
+            → longest_message
+            < length (reply_message self.now.binding self.now.minor op head.now (seen value.now)) }
+        ensures spent { NoneFell buf.old.spent buf.new.spent }
+    {
+        self.reply_in_version(op, self.minor(), head, value, buf)
+    }
+
+    /// Makes the message of a reply in a version, as `marshal_reply` does in the engine's.
+    pub fn reply_in_version(
+        &self,
+        op: u32,
+        minor: u8,
+        head: &Head,
+        value: &Value,
+        buf: &mut SendBuf,
+    ) -> Result<(), MarshalErr>
+        // What is sent.
+        requires op { op < length self.now.binding.ops }
+        requires minor { IsMinorOver self.now.binding.back minor }
+        requires typed { IsWellTyped (reply_type self.now.binding op) (seen value.now) }
+        // What `Ok` holds.
+        ensures ok { OnOk result (buf.new.done
+            ≡ reply_message self.now.binding minor op head.now (seen value.now)) }
+        ensures short { OnOk result (IsShort (reply_message self.now.binding minor op head.now (seen value.now))) }
+        ensures cost { OnOk result
+            (IsAnsweredByCode self.now.stubs minor op head.now (seen value.now) buf.old.spent buf.new) }
+        // What its code does.
+        ensures covered { IsCoveredAnswer self.now minor op head.now (seen value.now) }
+        ensures sparing { IsSparingAnswer self.now minor op head.now (seen value.now) }
+        // When it is not made, and what stays.
+        ensures err { OnErr result (buf.new.done ≡ []) }
+        ensures long { (result ≡ Err MarshalErr.Long)
+            → longest_message < length (reply_message self.now.binding minor op head.now (seen value.now)) }
         ensures spent { NoneFell buf.old.spent buf.new.spent }
     {
         let (arm, inner) = self.reply_arm(op, value);
-        match self.stubs().reply(op, arm, head, inner, buf) {
+        match self.stubs().reply(op, arm, minor, head, inner, buf) {
             Ok(()) => Ok(()),
             Err(SendErr::Long) => Err(MarshalErr::Long),
             Err(SendErr::NoMemory) => Err(MarshalErr::NoMemory),

@@ -18,6 +18,7 @@ use head_kit::Called;
 use kit_base::{NoMemory, Octets};
 use raw_buf::SendBuf;
 use std::alloc::Global;
+use stub_codes::bodies_are_taken;
 use wire_def::{Back, Head, Order, Refusal};
 
 /// All was done of what a call asks for (CORBA's completion status COMPLETED_YES).
@@ -199,7 +200,7 @@ impl Engine {
         }
     }
 
-    /// Puts the reply that refuses the call of a message into an empty buffer.
+    /// Puts the reply that refuses the call of a message, in its version, into an empty buffer.
     pub(crate) fn refuse(
         &self,
         why: &Refusal,
@@ -210,15 +211,16 @@ impl Engine {
         requires begins { Begins self.now.binding message.now called.now }
         requires own { IsOwnOver self.now.binding.back why.now }
         requires empty { buf.old.done ≡ [] }
-        ensures ok { OnOk result (RefusesOver self.now.binding.back message.now
+        ensures ok { OnOk result (RefusesOver self.now.binding.back called.now.minor message.now
             (refusals.reply_head self.now.binding.back called.now.head) why.now (Some buf.new.done)) }
         ensures spent { NoneFell buf.old.spent buf.new.spent }
     {
+        bodies_are_taken();
         let head = self.reply_head(&called.head);
         match self.bound().back() {
             Back::Xdr => back_xdr::put_refusal(why, &head, buf),
-            Back::CdrBig => giop_head::put_refusal(why, &head, buf),
-            Back::CdrLittle => giop_head::put_refusal(why, &head, buf),
+            Back::CdrBig => giop_head::put_refusal(why, &head, called.minor, buf),
+            Back::CdrLittle => giop_head::put_refusal(why, &head, called.minor, buf),
             Back::Mach => {
                 let Ok(call) = back_mach::read_call(message) else {
                     unreachable!()
@@ -240,7 +242,7 @@ impl Engine {
         requires begins { Begins self.now.binding message.now called.now }
         requires is { Answers self.now.binding message.now (Err fault) }
         requires empty { buf.old.done ≡ [] }
-        ensures ok { OnOk result (RefusesCall self.now.binding message.now
+        ensures ok { OnOk result (RefusesCall self.now.binding called.now.minor message.now
             (refusals.reply_head self.now.binding.back called.now.head) fault (Some buf.new.done)) }
         ensures there { OnOk result (ReadCall self.now.binding message.now (Err fault)) }
         ensures spent { NoneFell buf.old.spent buf.new.spent }

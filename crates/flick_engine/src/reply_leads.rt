@@ -43,11 +43,11 @@ fn put_long(order: Order, n: u32, buf: &mut SendBuf)
     put_octets(&long_octets(order, n), buf);
 }
 
-/// Puts the header of a GIOP message of a type, whose size is not set yet.
-fn put_header(order: Order, message_type: u8, buf: &mut SendBuf)
+/// Puts the header of a GIOP message of a version and a type, whose size is not set yet.
+fn put_header(minor: u8, order: Order, message_type: u8, buf: &mut SendBuf)
     requires empty { buf.old.done ≡ [] }
     requires room { 12 ≤ length buf.old.front }
-    ensures done { buf.new.done ≡ header_octets order message_type }
+    ensures done { buf.new.done ≡ header_octets minor order message_type }
     ensures ahead { length buf.new.front + 12 ≡ length buf.old.front }
     ensures spent { NoneFell buf.old.spent buf.new.spent }
 {
@@ -61,7 +61,7 @@ fn put_header(order: Order, message_type: u8, buf: &mut SendBuf)
         b'O',
         b'P',
         1,
-        0,
+        minor,
         octet,
         message_type,
         0,
@@ -72,33 +72,34 @@ fn put_header(order: Order, message_type: u8, buf: &mut SendBuf)
     put_octets(&header, buf);
 }
 
-/// Puts the reply to a search for an object: whether it is here.
+/// Puts the reply to a search for an object, in its version: whether it is here.
 pub(crate) fn put_locate_reply(
+    minor: u8,
     order: Order,
     id: u32,
     here: bool,
     buf: &mut SendBuf,
 ) -> Result<(), NoMemory>
     requires { buf.old.done ≡ [] }
-    ensures ok { OnOk result (buf.new.done ≡ locate_octets order id here) }
+    ensures ok { OnOk result (buf.new.done ≡ locate_octets minor order id here) }
     ensures spent { NoneFell buf.old.spent buf.new.spent }
 {
     buf.ensure(32)?;
-    put_header(order, 4, buf);
+    put_header(minor, order, 4, buf);
     put_long(order, id, buf);
     put_long(order, u32::from(here), buf);
     giop_head::put_size(order, buf);
     Ok(())
 }
 
-/// Puts the message that answers one that is wrong: a header alone.
-pub(crate) fn put_message_error(order: Order, buf: &mut SendBuf) -> Result<(), NoMemory>
+/// Puts the message of a version that answers one that is wrong: a header alone.
+pub(crate) fn put_message_error(minor: u8, order: Order, buf: &mut SendBuf) -> Result<(), NoMemory>
     requires { buf.old.done ≡ [] }
-    ensures ok { OnOk result (buf.new.done ≡ header_octets order 6) }
+    ensures ok { OnOk result (buf.new.done ≡ header_octets minor order 6) }
     ensures spent { NoneFell buf.old.spent buf.new.spent }
 {
     buf.ensure(12)?;
-    put_header(order, 6, buf);
+    put_header(minor, order, 6, buf);
     Ok(())
 }
 

@@ -23,6 +23,7 @@ use kit_base::limits::LONGEST_MESSAGE;
 use raw_buf::{RecvView, SendBuf};
 use skeleton::Skeleton;
 use std::alloc::Global;
+use stub_codes::bodies_are_taken;
 
 /// What became of a message that was served.
 #[derive(Clone, Copy, Debug, PartialEq, Eq)]
@@ -49,7 +50,7 @@ impl Engine {
         requires start { view.old.pos ≡ 0 }
         // What is answered.
         ensures serves { IfOk result (λ s.
-            Serves self.now.binding (S.Answers skeleton.now) view.old.octets (reply_in s buf.new.done)) }
+            Serves self.now.binding self.now.minor (S.Answers skeleton.now) view.old.octets (reply_in s buf.new.done)) }
         ensures silent { (result ≡ Ok Served.Silent) → buf.new.done ≡ [] }
         ensures err { OnErr result (buf.new.done ≡ []) }
         // What it costs.
@@ -86,7 +87,7 @@ impl Engine {
         requires empty { buf.old.done ≡ [] }
         // What is answered, and what it costs.
         ensures serves { IfOk result (λ s.
-            Serves self.now.binding (S.Answers skeleton.now) message.now (reply_in s buf.new.done)) }
+            Serves self.now.binding self.now.minor (S.Answers skeleton.now) message.now (reply_in s buf.new.done)) }
         ensures silent { (result ≡ Ok Served.Silent) → buf.new.done ≡ [] }
         ensures cost { IfOk result (λ s. ServesByCode self.now (S.Answers skeleton.now)
             message.now (reply_in s buf.new.done) buf.old.spent buf.new) }
@@ -188,7 +189,7 @@ impl Engine {
         }
     }
 
-    /// Answers a request by a reply: that of the work, or a refusal where it would be too long.
+    /// Answers a request by a reply in its version: that of the work, or a refusal where it would be too long.
     fn answer_request<S: Skeleton>(
         &self,
         alloc: Global,
@@ -205,17 +206,18 @@ impl Engine {
         requires typed { IsWellTyped (request_type self.now.binding request.now.op) (seen request.now.value) }
         // What is answered, and what it costs.
         ensures answers { OnOk result
-            (AnswersAs self.now.binding (S.Answers skeleton.now) message.now
+            (AnswersAs self.now.binding called.now.minor (S.Answers skeleton.now) message.now
             (reply_head self.now.binding.back called.now.head) (Ok (asked request.now)) (Some buf.new.done)) }
         ensures cost { OnOk result
-            (AnswersByCode self.now (S.Answers skeleton.now) message.now
+            (AnswersByCode self.now called.now.minor (S.Answers skeleton.now) message.now
             (reply_head self.now.binding.back called.now.head) (asked request.now)
             (Some buf.new.done) buf.old.spent buf.new) }
         ensures spent { NoneFell buf.old.spent buf.new.spent }
     {
+        bodies_are_taken();
         let head = self.reply_head(&called.head);
         let reply = skeleton.call(alloc, request.op, &request.value)?;
-        match self.marshal_reply(request.op, &head, &reply, buf) {
+        match self.reply_in_version(request.op, called.minor, &head, &reply, buf) {
             Ok(()) => Ok(()),
             Err(MarshalErr::Long) => {
                 let why = self.long_reply(alloc)?;

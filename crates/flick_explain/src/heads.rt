@@ -37,6 +37,7 @@ fn giop_octets(word: &[u8]) -> (usize, usize) {
         b"Order" => (6, 7),
         b"Type" => (7, 8),
         b"Size" => (8, 12),
+        b"Target" => (20, 22),
         _ => (0, 0),
     }
 }

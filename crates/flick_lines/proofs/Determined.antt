@@ -69,9 +69,9 @@ one_parted b line (Some n) x y p q = one_of_reply b (replying b (take n line)) (
 -- ---- lines
 
 pub one_to : (v : Verb) (c : Coded) (octets x y : List ℕ) → IsAnswerTo v c octets x → IsAnswerTo v c octets y → x ≡ y
-one_to Marshal c octets x y p q = one_of_tree (request_of c.binding) (call_digits c.binding) (tree_of octets) x y p q
+one_to Marshal c octets x y p q = one_of_tree (request_of c.binding) (call_digits c.binding c.minor) (tree_of octets) x y p q
 one_to Unmarshal c octets x y p q =
     one_of_octets (ReadCall c.binding) (request_text c.binding) (determined c.binding) (decode_of octets) x y p q
-one_to Reply c octets x y p q = one_of_tree (reply_of c.binding) (reply_digits c.binding) (tree_of octets) x y p q
+one_to Reply c octets x y p q = one_of_tree (reply_of c.binding) (reply_digits c.binding c.minor) (tree_of octets) x y p q
 one_to Unreply c octets x y p q = one_parted c.binding octets (position (λ o. o == 32) octets) x y p q
 one_to Count c octets x y p q = one_of_tree (request_of c.binding) (call_counted c) (tree_of octets) x y p q

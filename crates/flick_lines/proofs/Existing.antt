@@ -81,10 +81,10 @@ parted_has b fit line (Some n) = reply_has b fit (replying b (take n line)) (dro
 -- ---- lines
 
 pub text_has : (c : Coded) → IsFit c.binding → (v : Verb) (octets : List ℕ) → (a : List ℕ) × IsAnswerTo v c octets a
-text_has c fit Marshal octets = tree_has (request_of c.binding) (call_digits c.binding) (tree_of octets)
+text_has c fit Marshal octets = tree_has (request_of c.binding) (call_digits c.binding c.minor) (tree_of octets)
 text_has c fit Unmarshal octets =
     octets_have (ReadCall c.binding) (request_text c.binding) (something c.binding fit.requests) octets (decode_of octets) refl
-text_has c fit Reply octets = tree_has (reply_of c.binding) (reply_digits c.binding) (tree_of octets)
+text_has c fit Reply octets = tree_has (reply_of c.binding) (reply_digits c.binding c.minor) (tree_of octets)
 text_has c fit Unreply octets = parted_has c.binding fit octets (position (λ o. o == 32) octets)
 text_has c fit Count octets = tree_has (request_of c.binding) (call_counted c) (tree_of octets)
 

@@ -1,5 +1,5 @@
 -- What a record that was read, or refused, is answered.
-use Rattle.std.proofs.Common.{◌≡◌, inl, inr, ℕ, List, Result, Ok, Err, refl, sym, ap, ◌∙◌, subst}
+use Rattle.std.proofs.Common.{◌≡◌, inl, inr, ℕ, List, Result, Ok, Err, refl, sym, ap, ◌∙◌, subst, slice_index}
 use Rattle.mint.specs.Values.{seen}
 use Rattle.wire_def.specs.declared.head.Head.{Head}
 use Rattle.pres.specs.Bindings.{Binding}
@@ -37,3 +37,11 @@ pub refused-at : (begun : Binding → Beginning) (m : Texts) (b c : Binding) (tr
     → (a : List ℕ) → a ≡ record_refusal e → IsOfRecord m (begun b tree) a
 refused-at begun m b c tree e same comes other a is =
     of-refusal m (begun b tree) e (subst (λ (x : Binding). Comes (begun x tree) (Err e)) same comes) other a is
+
+-- a refusal begins with `!`
+pub marked : (e : RecordErr) (a : List ℕ) → (e ≡ errors.NoMemory → ⊥) → a ≡ record_refusal e → slice_index a 0 ≡ 33
+marked errors.Request a other is = ap (λ (o : List ℕ). slice_index o 0) is
+marked errors.Op a other is = ap (λ (o : List ℕ). slice_index o 0) is
+marked errors.Head a other is = ap (λ (o : List ℕ). slice_index o 0) is
+marked errors.Shape a other is = ap (λ (o : List ℕ). slice_index o 0) is
+marked errors.NoMemory a other is = absurd (other refl)

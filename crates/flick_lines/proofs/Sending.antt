@@ -173,10 +173,11 @@ message_runs message_of cost_of op h v old new ran stands =
     message_within message_of cost_of op h v old new (nat_le (length (message_of op h v)) longest_message) refl ran stands
 
 pub call_runs : (c : Coded) → IsRun (call_sent c) (call_by_code c)
-call_runs c op h v old new ran stands = message_runs (message c.binding) (sent_cost c.stubs) op h v old new ran stands
+call_runs c op h v old new ran stands = message_runs (message c.binding c.minor) (sent_cost c.stubs) op h v old new ran stands
 
 reply_runs : (c : Coded) → IsRun (reply_sent c) (reply_by_code c)
-reply_runs c op h v old new ran stands = message_runs (reply_message c.binding) (answer_cost c.stubs) op h v old new ran stands
+reply_runs c op h v old new ran stands =
+    message_runs (reply_message c.binding c.minor) (answer_cost c.stubs c.minor) op h v old new ran stands
 
 -- ---- a verb
 

@@ -1,11 +1,12 @@
 -- Bindings of one unit over one back end have the same operations and messages, whatever numbers their nodes have.
-use Rattle.std.proofs.Common.{◌≡◌, ℕ, zero, suc, pos, negsuc, ◌<◌, List, [], ◌∷◌, ◌++◌, map, length, refl, sym, ap, ◌∙◌, arith}
+use Rattle.std.proofs.Common.{◌≡◌, ℕ, zero, suc, pos, negsuc, ◌<◌, List, not, [], ◌∷◌, ◌++◌, map, length, refl, sym, ap, ◌∙◌, arith}
 use Rattle.std.specs.Prelude.{codes, slice_index_or, unwrap_or}
 use Rattle.mint.specs.Types.{Ty, void_type}
 use Rattle.mint.specs.Values.{Val, void, num, row, group, items, arm, absent, present}
 use Rattle.wire_def.specs.declared.encoding.Back.{Back}
 use Rattle.wire_def.specs.declared.encoding.Back.TheVariants as back
 use Rattle.wire_def.specs.declared.head.Head.{Head}
+use Rattle.wire_def.specs.Hollow.{is_hollow}
 use Rattle.wire_def.specs.Send.{send}
 use Rattle.aoi.specs.Plain.{PlainUnit, PlainInterface}
 use Rattle.pres.specs.declared.ops.Op.{Op}
@@ -92,15 +93,17 @@ dotted_alike fs gs is js o p names e =
 -- ---- messages of calls
 
 -- the head of an operation's call
-lead_alike : (b c : Binding) → AreTwins b c → (op : ℕ) (h : Head) → lead b op h ≡ lead c op h
-lead_alike b c t op h = (heads_alike b c t.units t.one).leads op h ∙ ap (λ (k : Back). lead_over k c op h) t.backs
+lead_alike : (b c : Binding) → AreTwins b c → (m op : ℕ) → op < length b.ops → (h : Head) → lead b m op h ≡ lead c m op h
+lead_alike b c t m op below h =
+    (heads_alike b c t.units t.one).leads m op h (ap (λ (ty : Ty). not (is_hollow ty)) (request_alike b c t op below))
+    ∙ ap (λ (k : Back). lead_over k c m op h) t.backs
 
-pub message_alike : (b c : Binding) → AreTwins b c → (op : ℕ) → op < length b.ops → (h : Head) (v : Val)
-    → message b op h v ≡ message c op h v
-message_alike b c t op below h v =
-    ap (λ (l : List ℕ). sized b.back (l ++ send (encoding b.back) (request_type b op) (length l) v)) (lead_alike b c t op h)
-    ∙ ap (λ (k : Back). sized k (lead c op h ++ send (encoding k) (request_type b op) (length (lead c op h)) v)) (t.backs)
-    ∙ ap (λ (ty : Ty). sized c.back (lead c op h ++ send (encoding c.back) ty (length (lead c op h)) v))
+pub message_alike : (b c : Binding) → AreTwins b c → (m op : ℕ) → op < length b.ops → (h : Head) (v : Val)
+    → message b m op h v ≡ message c m op h v
+message_alike b c t m op below h v =
+    ap (λ (l : List ℕ). sized b.back (l ++ send (encoding b.back) (request_type b op) (length l) v)) (lead_alike b c t m op below h)
+    ∙ ap (λ (k : Back). sized k (lead c m op h ++ send (encoding k) (request_type b op) (length (lead c m op h)) v)) (t.backs)
+    ∙ ap (λ (ty : Ty). sized c.back (lead c m op h ++ send (encoding c.back) ty (length (lead c m op h)) v))
     (request_alike b c t op below)
 
 -- ---- messages of replies
@@ -120,35 +123,35 @@ unit_alike f b c units backs =
     ap (λ (u : PlainUnit). f (of_both c u b.back)) units ∙ ap (λ (e : Back). f (of_both c c.unit e)) backs
 
 -- the head of a reply over a back end
-reply_lead_same : (e : Back) (b c : Binding) → b.unit ≡ c.unit → b.back ≡ c.back → (op k : ℕ) (h : Head)
-    → reply_lead_over e b op k h ≡ reply_lead_over e c op k h
-reply_lead_same back.Xdr b c units backs op k h = unit_alike (λ (x : Binding). reply_lead_over back.Xdr x op k h) b c units backs
-reply_lead_same back.CdrBig b c units backs op k h = unit_alike (λ (x : Binding). reply_lead_over back.CdrBig x op k h) b c units backs
-reply_lead_same back.CdrLittle b c units backs op k h =
-    unit_alike (λ (x : Binding). reply_lead_over back.CdrLittle x op k h) b c units backs
-reply_lead_same back.Mach b c units backs op k h = unit_alike (λ (x : Binding). reply_lead_over back.Mach x op k h) b c units backs
+reply_lead_same : (e : Back) (b c : Binding) → b.unit ≡ c.unit → b.back ≡ c.back → (m op k : ℕ) (h : Head)
+    → reply_lead_over e b m op k h ≡ reply_lead_over e c m op k h
+reply_lead_same back.Xdr b c units backs m op k h = unit_alike (λ (x : Binding). reply_lead_over back.Xdr x m op k h) b c units backs
+reply_lead_same back.CdrBig b c units backs m op k h = unit_alike (λ (x : Binding). reply_lead_over back.CdrBig x m op k h) b c units backs
+reply_lead_same back.CdrLittle b c units backs m op k h =
+    unit_alike (λ (x : Binding). reply_lead_over back.CdrLittle x m op k h) b c units backs
+reply_lead_same back.Mach b c units backs m op k h = unit_alike (λ (x : Binding). reply_lead_over back.Mach x m op k h) b c units backs
 
-reply_lead_alike : (b c : Binding) → AreTwins b c → (op k : ℕ) (h : Head) → reply_lead b op k h ≡ reply_lead c op k h
-reply_lead_alike b c t op k h =
-    reply_lead_same b.back b c t.units t.backs op k h ∙ ap (λ (e : Back). reply_lead_over e c op k h) t.backs
+reply_lead_alike : (b c : Binding) → AreTwins b c → (m op k : ℕ) (h : Head) → reply_lead b m op k h ≡ reply_lead c m op k h
+reply_lead_alike b c t m op k h =
+    reply_lead_same b.back b c t.units t.backs m op k h ∙ ap (λ (e : Back). reply_lead_over e c m op k h) t.backs
 
-arm_message_alike : (b c : Binding) → AreTwins b c → (op : ℕ) → op < length b.ops → (k : ℕ) (h : Head) (w : Val)
-    → arm_message b op k h w ≡ arm_message c op k h w
-arm_message_alike b c t op below k h w =
-    ap (λ (l : List ℕ). sized b.back (l ++ send (encoding b.back) (arm_type b op k) (length l) w)) (reply_lead_alike b c t op k h)
-    ∙ ap (λ (e : Back). sized e (reply_lead c op k h ++ send (encoding e) (arm_type b op k) (length (reply_lead c op k h)) w))
+arm_message_alike : (b c : Binding) → AreTwins b c → (m op : ℕ) → op < length b.ops → (k : ℕ) (h : Head) (w : Val)
+    → arm_message b m op k h w ≡ arm_message c m op k h w
+arm_message_alike b c t m op below k h w =
+    ap (λ (l : List ℕ). sized b.back (l ++ send (encoding b.back) (arm_type b op k) (length l) w)) (reply_lead_alike b c t m op k h)
+    ∙ ap (λ (e : Back). sized e (reply_lead c m op k h ++ send (encoding e) (arm_type b op k) (length (reply_lead c m op k h)) w))
     (t.backs)
-    ∙ ap (λ (ty : Ty). sized c.back (reply_lead c op k h ++ send (encoding c.back) ty (length (reply_lead c op k h)) w))
+    ∙ ap (λ (ty : Ty). sized c.back (reply_lead c m op k h ++ send (encoding c.back) ty (length (reply_lead c m op k h)) w))
     (arm_alike b c t op below k)
 
-pub reply_message_alike : (b c : Binding) → AreTwins b c → (op : ℕ) → op < length b.ops → (h : Head) (v : Val)
-    → reply_message b op h v ≡ reply_message c op h v
-reply_message_alike b c t op below h (arm (pos k) w) = arm_message_alike b c t op below k h w
-reply_message_alike b c t op below h (arm (negsuc k) w) = refl
-reply_message_alike b c t op below h void = refl
-reply_message_alike b c t op below h (num n) = refl
-reply_message_alike b c t op below h (row k ns) = refl
-reply_message_alike b c t op below h (group vs) = refl
-reply_message_alike b c t op below h (items vs) = refl
-reply_message_alike b c t op below h absent = refl
-reply_message_alike b c t op below h (present v) = refl
+pub reply_message_alike : (b c : Binding) → AreTwins b c → (m op : ℕ) → op < length b.ops → (h : Head) (v : Val)
+    → reply_message b m op h v ≡ reply_message c m op h v
+reply_message_alike b c t m op below h (arm (pos k) w) = arm_message_alike b c t m op below k h w
+reply_message_alike b c t m op below h (arm (negsuc k) w) = refl
+reply_message_alike b c t m op below h void = refl
+reply_message_alike b c t m op below h (num n) = refl
+reply_message_alike b c t m op below h (row k ns) = refl
+reply_message_alike b c t m op below h (group vs) = refl
+reply_message_alike b c t m op below h (items vs) = refl
+reply_message_alike b c t m op below h absent = refl
+reply_message_alike b c t m op below h (present v) = refl

@@ -31,7 +31,7 @@ counted_of m counts = if nat_le (length m) longest_message then encode_lower m +
 
 -- the message of a call in digits, and what it costs
 abbrev pub call_counted : Coded → Texts
-call_counted c op h v = counted_of (message c.binding op h v) (counts_of c.stubs op h v)
+call_counted c op h v = counted_of (message c.binding c.minor op h v) (counts_of c.stubs op h v)
 
 -- the answer to a line as a request record, without its line feed: the message of its call, and what it costs
 abbrev pub IsCounted : Coded → List ℕ → List ℕ → Type 0

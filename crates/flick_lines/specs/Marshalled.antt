@@ -1,5 +1,5 @@
 -- The answers of `marshal` and `reply`: the messages of request records, and of reply records.
-use Rattle.std.specs.Prelude.{◌≡◌, ◌⊎◌, ℕ, List, length, nat_le, ◌==◌, if◌then◌else◌, Option, Some, None, Result, Ok, Err, codes}
+use Rattle.std.specs.Prelude.{◌≡◌, ◌⊎◌, ◌≤◌, ℕ, List, length, nat_le, ◌==◌, if◌then◌else◌, slice_index, unwrap_or, Option, Some, None, Result, Ok, Err, codes}
 use Rattle.std.specs.Str.Lossy.{utf8_valid_len}
 use Rattle.kit_base.specs.Limits.{longest_message}
 use Rattle.hex.specs.Hex.{encode_lower}
@@ -57,18 +57,29 @@ abbrev pub IsOfTree : Beginning → Texts → Option Data → List ℕ → Type 
 IsOfTree begun text_of None a = a ≡ codes "! json"
 IsOfTree begun text_of (Some tree) a = IsOfRecord text_of (begun tree) a
 
--- the message of a call in digits
-abbrev pub call_digits : Binding → Texts
-call_digits b op h v = digits_of (message b op h v)
+-- the message of a call, in a version, in digits
+abbrev pub call_digits : Binding → ℕ → Texts
+call_digits b m op h v = digits_of (message b m op h v)
 
--- the message of a reply in digits
-abbrev pub reply_digits : Binding → Texts
-reply_digits b op h v = digits_of (reply_message b op h v)
+-- the message of a reply, in a version, in digits
+abbrev pub reply_digits : Binding → ℕ → Texts
+reply_digits b m op h v = digits_of (reply_message b m op h v)
 
--- the answer to a line as a request record, without its line feed: the message of its call
-abbrev pub IsMarshalled : Binding → List ℕ → List ℕ → Type 0
-IsMarshalled b line a = IsOfTree (request_of b) (call_digits b) (tree_of line) a
+-- the answer to a line as a request record, without its line feed: the message of its call in a version
+abbrev pub IsMarshalled : Binding → ℕ → List ℕ → List ℕ → Type 0
+IsMarshalled b m line a = IsOfTree (request_of b) (call_digits b m) (tree_of line) a
 
--- the answer to a line as a reply record: the message of its reply
-abbrev pub IsReplied : Binding → List ℕ → List ℕ → Type 0
-IsReplied b line a = IsOfTree (reply_of b) (reply_digits b) (tree_of line) a
+-- the answer to a line as a reply record: the message of its reply in a version
+abbrev pub IsReplied : Binding → ℕ → List ℕ → List ℕ → Type 0
+IsReplied b m line a = IsOfTree (reply_of b) (reply_digits b m) (tree_of line) a
+
+-- ---- a message in a buffer
+
+-- the answer to a line, by its refusal where there is one, and otherwise by the message that is held
+abbrev pub text_in : Option (List ℕ) → List ℕ → List ℕ
+text_in refusal held = unwrap_or refusal (encode_lower held)
+
+-- a refusal, which begins with `!`, or else a message of at most 4,194,304 octets that is held
+abbrev pub IsEither : Option (List ℕ) → List ℕ → Type 0
+IsEither None held = length held ≤ longest_message
+IsEither (Some refusal) held = slice_index refusal 0 ≡ 33

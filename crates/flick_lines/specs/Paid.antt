@@ -36,11 +36,11 @@ by_code message cost_of op h v old new =
 
 -- the message of a call, by the code of its operation
 abbrev pub call_by_code : Coded → Runs
-call_by_code c op h v old new = by_code (message c.binding) (sent_cost c.stubs) op h v old new
+call_by_code c op h v old new = by_code (message c.binding c.minor) (sent_cost c.stubs) op h v old new
 
 -- the message of a reply, by the code of its arm
 abbrev pub reply_by_code : Coded → Runs
-reply_by_code c op h v old new = by_code (reply_message c.binding) (answer_cost c.stubs) op h v old new
+reply_by_code c op h v old new = by_code (reply_message c.binding c.minor) (answer_cost c.stubs c.minor) op h v old new
 
 -- each value that the record presents was sent so; where there is none, nothing became of the buffer
 abbrev pub IsPaidOnce : Runs → Begun → Buf → Buf → Type 0

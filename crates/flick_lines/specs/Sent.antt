@@ -41,11 +41,11 @@ message_sent message cost_of op h v =
 
 -- the message of a call, at what the code costs that is kept for its operation
 abbrev pub call_sent : Coded → Sent
-call_sent c op h v = message_sent (message c.binding) (sent_cost c.stubs) op h v
+call_sent c op h v = message_sent (message c.binding c.minor) (sent_cost c.stubs) op h v
 
 -- the message of a reply, at what the code costs that is kept for its arm
 abbrev pub reply_sent : Coded → Sent
-reply_sent c op h v = message_sent (reply_message c.binding) (answer_cost c.stubs) op h v
+reply_sent c op h v = message_sent (reply_message c.binding c.minor) (answer_cost c.stubs c.minor) op h v
 
 -- what is sent of a record: that of the value that it presents; nothing where it presents none
 abbrev pub IsSentOnce : Sent → Begun → Sending → Type 0

@@ -9,7 +9,7 @@ ghost use Rattle.raw_buf.specs.Buf.{NoneFell};
 ghost use Rattle.flick_engine.specs.Messages.{message};
 ghost use Rattle.json_shape.specs.Requests.{request_of};
 ghost use Rattle.flick_lines.specs.declared.verb.Verb.TheVariants as verbs;
-ghost use Rattle.flick_lines.specs.Marshalled.{call_digits, digits_of, record_refusal, tree_of, IsMarshalled, IsOfRecord};
+ghost use Rattle.flick_lines.specs.Marshalled.{call_digits, digits_of, record_refusal, text_in, tree_of, IsEither, IsMarshalled, IsOfRecord};
 ghost use Rattle.flick_lines.specs.Paid.{call_by_code, IsPaid, IsPaidRecord};
 
 use crate::text::{copied, digits};
@@ -30,30 +30,52 @@ pub fn marshal(
     scratch: &mut Scratch,
     buf: &mut SendBuf,
 ) -> Result<Octets, NoMemory>
-    ensures value { IfOk result (λ o. IsMarshalled engine.now.binding line.now o) }
+    ensures value { IfOk result (λ o. IsMarshalled engine.now.binding engine.now.minor line.now o) }
+    ensures spent { NoneFell buf.old.spent buf.new.spent }
+    ensures paid { OnOk result (IsPaid verbs.Marshal engine.now line.now buf.old buf.new) }
+{
+    match message_of(alloc, engine, line, scratch, buf)? {
+        Some(refusal) => Ok(refusal),
+        None => digits(alloc, buf.octets()),
+    }
+}
+
+/// Makes the message of a line in the buffer, or answers the refusal of the line. The scratch is for reading.
+pub fn message_of(
+    alloc: Global,
+    engine: &Engine,
+    line: &[u8],
+    scratch: &mut Scratch,
+    buf: &mut SendBuf,
+) -> Result<Option<Octets>, NoMemory>
+    ensures value { IfOk result (λ o. IsMarshalled engine.now.binding engine.now.minor line.now
+        (text_in o buf.new.done)) }
+    ensures either { IfOk result (λ o. IsEither o buf.new.done) }
     ensures spent { NoneFell buf.old.spent buf.new.spent }
     ensures paid { OnOk result (IsPaid verbs.Marshal engine.now line.now buf.old buf.new) }
 {
     match usual_of(alloc, engine, line, scratch)? {
-        Some(record) => digits_of(alloc, engine, &record, buf),
+        Some(record) => made_of(alloc, engine, &record, buf),
         None => by_tree(alloc, engine, line, buf),
     }
 }
 
-/// The answer of `marshal` by the tree of a line.
+/// The same by the tree of a line.
 fn by_tree(
     alloc: Global,
     engine: &Engine,
     line: &[u8],
     buf: &mut SendBuf,
-) -> Result<Octets, NoMemory>
-    ensures value { IfOk result (λ o. IsMarshalled engine.now.binding line.now o) }
+) -> Result<Option<Octets>, NoMemory>
+    ensures value { IfOk result (λ o. IsMarshalled engine.now.binding engine.now.minor line.now
+        (text_in o buf.new.done)) }
+    ensures either { IfOk result (λ o. IsEither o buf.new.done) }
     ensures spent { NoneFell buf.old.spent buf.new.spent }
     ensures paid { OnOk result (IsPaid verbs.Marshal engine.now line.now buf.old buf.new) }
 {
     match tree_of(alloc, line)? {
         Some(json) => of_tree(alloc, engine, &json, buf),
-        None => copied(alloc, b"! json"),
+        None => Ok(Some(copied(alloc, b"! json")?)),
     }
 }
 
@@ -76,22 +98,23 @@ pub fn tree_of(alloc: Global, line: &[u8]) -> Result<Option<Json>, NoMemory>
     }
 }
 
-/// The answer of `marshal` to a tree as a request record.
+/// The same of a tree as a request record.
 fn of_tree(
     alloc: Global,
     engine: &Engine,
     json: &Json,
     buf: &mut SendBuf,
-) -> Result<Octets, NoMemory>
-    ensures value { IfOk result (λ o. IsOfRecord (call_digits engine.now.binding)
-        (request_of engine.now.binding (view json.now)) o) }
+) -> Result<Option<Octets>, NoMemory>
+    ensures value { IfOk result (λ o. IsOfRecord (call_digits engine.now.binding engine.now.minor)
+        (request_of engine.now.binding (view json.now)) (text_in o buf.new.done)) }
+    ensures either { IfOk result (λ o. IsEither o buf.new.done) }
     ensures spent { NoneFell buf.old.spent buf.new.spent }
     ensures paid { OnOk result (IsPaidRecord (call_by_code engine.now)
         (request_of engine.now.binding (view json.now)) buf.old buf.new) }
 {
     match read_request(alloc, engine.bound(), json) {
-        Ok(record) => digits_of(alloc, engine, &record, buf),
-        Err(refusal) => refused(alloc, refusal),
+        Ok(record) => made_of(alloc, engine, &record, buf),
+        Err(refusal) => Ok(Some(refused(alloc, refusal)?)),
     }
 }
 
@@ -109,25 +132,26 @@ pub(crate) fn refused(alloc: Global, refusal: RecordErr) -> Result<Octets, NoMem
     }
 }
 
-/// The message of a request in hexadecimal digits, unless it is too long.
-fn digits_of(
+/// Makes the message of a request in the buffer, unless it is too long.
+fn made_of(
     alloc: Global,
     engine: &Engine,
     record: &RequestRec,
     buf: &mut SendBuf,
-) -> Result<Octets, NoMemory>
+) -> Result<Option<Octets>, NoMemory>
     requires op { record.now.op < length engine.now.binding.ops }
     requires typed { IfSome (slice_get engine.now.binding.ops record.now.op)
         (λ o. IsWellTyped (type_at engine.now.binding.nodes o.request) (seen record.now.value)) }
-    ensures value { IfOk result (λ o. o ≡ digits_of
-        (message engine.now.binding record.now.op record.now.head (seen record.now.value))) }
+    ensures value { IfOk result (λ o. text_in o buf.new.done ≡ digits_of
+        (message engine.now.binding engine.now.minor record.now.op record.now.head (seen record.now.value))) }
+    ensures either { IfOk result (λ o. IsEither o buf.new.done) }
     ensures spent { NoneFell buf.old.spent buf.new.spent }
     ensures paid { OnOk result (call_by_code engine.now record.now.op record.now.head
         (seen record.now.value) buf.old buf.new) }
 {
     match engine.marshal(record.op, &record.head, &record.value, buf) {
-        Ok(()) => digits(alloc, buf.octets()),
-        Err(MarshalErr::Long) => copied(alloc, b"! long"),
+        Ok(()) => Ok(None),
+        Err(MarshalErr::Long) => Ok(Some(copied(alloc, b"! long")?)),
         Err(MarshalErr::NoMemory) => Err(NoMemory),
     }
 }

@@ -28,7 +28,7 @@ pub fn reply(
     line: &[u8],
     buf: &mut SendBuf,
 ) -> Result<Octets, NoMemory>
-    ensures value { IfOk result (λ o. IsReplied engine.now.binding line.now o) }
+    ensures value { IfOk result (λ o. IsReplied engine.now.binding engine.now.minor line.now o) }
     ensures spent { NoneFell buf.old.spent buf.new.spent }
     ensures paid { OnOk result (IsPaid verbs.Reply engine.now line.now buf.old buf.new) }
 {
@@ -45,7 +45,7 @@ fn of_tree(
     json: &Json,
     buf: &mut SendBuf,
 ) -> Result<Octets, NoMemory>
-    ensures value { IfOk result (λ o. IsOfRecord (reply_digits engine.now.binding)
+    ensures value { IfOk result (λ o. IsOfRecord (reply_digits engine.now.binding engine.now.minor)
         (reply_of engine.now.binding (view json.now)) o) }
     ensures spent { NoneFell buf.old.spent buf.new.spent }
     ensures paid { OnOk result (IsPaidRecord (reply_by_code engine.now)
@@ -68,7 +68,8 @@ fn digits_of(
     requires typed { IfSome (slice_get engine.now.binding.ops record.now.op)
         (λ o. IsWellTyped (type_at engine.now.binding.nodes o.reply) (seen record.now.value)) }
     ensures value { IfOk result (λ o. o ≡ digits_of
-        (reply_message engine.now.binding record.now.op record.now.head (seen record.now.value))) }
+        (reply_message engine.now.binding engine.now.minor record.now.op record.now.head
+        (seen record.now.value))) }
     ensures spent { NoneFell buf.old.spent buf.new.spent }
     ensures paid { OnOk result (reply_by_code engine.now record.now.op record.now.head
         (seen record.now.value) buf.old buf.new) }

@@ -1,6 +1,7 @@
 //! The answers of `unmarshal`.
 
 ghost use Rattle.std.specs.Prelude.{◌≡◌, ◌≢◌, ◌<◌, length, IfOk, OnOk, Ok, string_bytes};
+ghost use Rattle.hex.specs.Hex.{encode_lower};
 ghost use Rattle.mint.specs.Typed.{IsWellTyped};
 ghost use Rattle.mint.specs.Values.{seen};
 ghost use Rattle.flick_engine.specs.Messages.{request_type};
@@ -25,6 +26,13 @@ pub fn unmarshal(alloc: Global, engine: &Engine, line: &[u8]) -> Result<Octets, 
         Err(FromHexError::OutOfMemory) => Err(NoMemory),
         Err(_) => copied(alloc, b"! hex"),
     }
+}
+
+/// The answer to a message: that to the line of its digits.
+pub fn record_of(alloc: Global, engine: &Engine, message: &[u8]) -> Result<Octets, NoMemory>
+    ensures { IfOk result (λ o. IsUnmarshalled engine.now.binding (encode_lower message.now) o) }
+{
+    of_octets(alloc, engine, message)
 }
 
 /// The answer to a message.

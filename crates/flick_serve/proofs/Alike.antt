@@ -62,7 +62,7 @@ short_over : (b c : Binding) → AreTwins b c → (x : Result Begun RecordErr) �
     → IsReplyOf b x op v → IsReplyOf c x op v
 short_over b c t (Err e) few op v h = h
 short_over b c t (Ok r) few op v (is, presents, short) =
-    (is, presents, subst (λ (m : List ℕ). IsShort m) (reply_message_alike b c t r.op few r.head v) short)
+    (is, presents, subst (λ (m : List ℕ). IsShort m) (reply_message_alike b c t 0 r.op few r.head v) short)
 
 in_tree_over : (b c : Binding) → AreTwins b c → (j : Option Data) (op : ℕ) (v : Val) → IsInTree b j op v → IsInTree c j op v
 in_tree_over b c t None op v h = h
@@ -95,12 +95,12 @@ file_over b c t text x h =
 
 -- ---- how messages are answered
 
-fault_same : (k : Back) (b c : Binding) → b.unit ≡ c.unit → (o : List ℕ) (e : HeadErr) (x : Option (List ℕ))
-    → AnswersFault k b o e x → AnswersFault k c o e x
-fault_same back.Xdr b c units o e x h = h
-fault_same back.CdrBig b c units o e x h = subst (λ (u : PlainUnit). AnswersFault back.CdrBig (of_unit c u) o e x) units h
-fault_same back.CdrLittle b c units o e x h = subst (λ (u : PlainUnit). AnswersFault back.CdrLittle (of_unit c u) o e x) units h
-fault_same back.Mach b c units o e x h = h
+fault_same : (k : Back) (m : ℕ) (b c : Binding) → b.unit ≡ c.unit → (o : List ℕ) (e : HeadErr) (x : Option (List ℕ))
+    → AnswersFault k m b o e x → AnswersFault k m c o e x
+fault_same back.Xdr m b c units o e x h = h
+fault_same back.CdrBig m b c units o e x h = subst (λ (u : PlainUnit). AnswersFault back.CdrBig m (of_unit c u) o e x) units h
+fault_same back.CdrLittle m b c units o e x h = subst (λ (u : PlainUnit). AnswersFault back.CdrLittle m (of_unit c u) o e x) units h
+fault_same back.Mach m b c units o e x h = h
 
 no_interface_same : (k : Back) (b c : Binding) → b.unit ≡ c.unit → (o : List ℕ) (why : Refusal) → NoInterfaceOver k b o why
     → NoInterfaceOver k c o why
@@ -122,8 +122,8 @@ module _ (b c : Binding) (t : AreTwins b c) (o : List ℕ) where
   stops_over : (e : HeadErr) → Stops b.back o e → Stops c.back o e
   stops_over e h = subst (λ (k : Back). Stops k o e) t.backs h
 
-  fault_over : (e : HeadErr) (x : Option (List ℕ)) → AnswersFault b.back b o e x → AnswersFault c.back c o e x
-  fault_over e x h = subst (λ (k : Back). AnswersFault k c o e x) t.backs (fault_same b.back b c t.units o e x h)
+  fault_over : (m : ℕ) (e : HeadErr) (x : Option (List ℕ)) → AnswersFault b.back m b o e x → AnswersFault c.back m c o e x
+  fault_over m e x h = subst (λ (k : Back). AnswersFault k m c o e x) t.backs (fault_same b.back m b c t.units o e x h)
 
   named_alike : (n : Naming) → names_reply b n ≡ names_reply c n
   named_alike (Operation op) = reply_same (faces_in b) (faces_in c) b.ops c.ops op (ops_alike b c t)
@@ -145,20 +145,21 @@ module _ (b c : Binding) (t : AreTwins b c) (o : List ℕ) where
   reason_over (err.Trailing at) why h = h ∙ ap bad_body t.backs
   reason_over err.NoMemory why h = h ∙ ap bad_body t.backs
 
-  refuses_over : (head : Head) (why : Refusal) (x : Option (List ℕ)) → RefusesOver b.back o head why x → RefusesOver c.back o head why x
-  refuses_over head why x h = subst (λ (k : Back). RefusesOver k o head why x) t.backs h
+  refuses_over : (m : ℕ) (head : Head) (why : Refusal) (x : Option (List ℕ)) → RefusesOver b.back m o head why x
+      → RefusesOver c.back m o head why x
+  refuses_over m head why x h = subst (λ (k : Back). RefusesOver k m o head why x) t.backs h
 
-  refused_over : (head : Head) (e : MessageErr) (x : Option (List ℕ)) → RefusesCall b o head e x → RefusesCall c o head e x
-  refused_over head e x (why, is, refuses) = (why, reason_over e why is, refuses_over head why x refuses)
+  refused_over : (m : ℕ) (head : Head) (e : MessageErr) (x : Option (List ℕ)) → RefusesCall b m o head e x → RefusesCall c m o head e x
+  refused_over m head e x (why, is, refuses) = (why, reason_over e why is, refuses_over m head why x refuses)
 
-  replies_over : (head : Head) (op : ℕ) → op < length b.ops → (w : Val) (x : Option (List ℕ)) → Replies b o head op w x
-      → Replies c o head op w x
-  replies_over head op below w x (inl (short, is)) =
-      let same = reply_message_alike b c t op below head w in
-      inl (subst (λ (m : List ℕ). IsShort m) same short, is ∙ ap (λ (m : List ℕ). Some m) same)
-  replies_over head op below w x (inr (long, refuses)) = inr (
-    subst (λ (m : List ℕ). longest_message < length m) (reply_message_alike b c t op below head w) long,
-    subst (λ (k : Back). RefusesOver c.back o head (long_reply k) x) t.backs (refuses_over head (long_reply b.back) x refuses),
+  replies_over : (m : ℕ) (head : Head) (op : ℕ) → op < length b.ops → (w : Val) (x : Option (List ℕ)) → Replies b m o head op w x
+      → Replies c m o head op w x
+  replies_over m head op below w x (inl (short, is)) =
+      let same = reply_message_alike b c t m op below head w in
+      inl (subst (λ (l : List ℕ). IsShort l) same short, is ∙ ap (λ (l : List ℕ). Some l) same)
+  replies_over m head op below w x (inr (long, refuses)) = inr (
+    subst (λ (l : List ℕ). longest_message < length l) (reply_message_alike b c t m op below head w) long,
+    subst (λ (k : Back). RefusesOver c.back m o head (long_reply k) x) t.backs (refuses_over m head (long_reply b.back) x refuses),
   )
 
   -- the operation of a request is one of the binding
@@ -168,20 +169,20 @@ module _ (b c : Binding) (t : AreTwins b c) (o : List ℕ) where
       subst (λ n. n < length b.ops) (sym same) below
 
   module _ (f h : ℕ → Val) (same : (op : ℕ) → op < length b.ops → f op ≡ h op) where
-    answers_over : (head : Head) (r : Result Asked MessageErr) (x : Option (List ℕ)) → ReadCall b o r
-        → AnswersAs b (gives (λ op request. f op)) o head r x → AnswersAs c (gives (λ op request. h op)) o head r x
-    answers_over head (Err e) x reads a = refused_over head e x a
-    answers_over head (Ok r) x reads (w, is, replies) =
+    answers_over : (m : ℕ) (head : Head) (r : Result Asked MessageErr) (x : Option (List ℕ)) → ReadCall b o r
+        → AnswersAs b m (gives (λ op request. f op)) o head r x → AnswersAs c m (gives (λ op request. h op)) o head r x
+    answers_over m head (Err e) x reads a = refused_over m head e x a
+    answers_over m head (Ok r) x reads (w, is, replies) =
         let below = read_below r reads in
-        (w, is ∙ same r.op below, replies_over head r.op below w x replies)
+        (w, is ∙ same r.op below, replies_over m head r.op below w x replies)
 
     call_answered : (k : Called) (x : Option (List ℕ)) → AnswersCall b (gives (λ op request. f op)) o k x
         → AnswersCall c (gives (λ op request. h op)) o k x
     call_answered k x (r, reads, answers) = (
       r,
       call_over b c t o r reads,
-      subst (λ (e : Back). AnswersAs c (gives (λ op request. h op)) o (reply_head e k.head) r x) t.backs
-          (answers_over (reply_head b.back k.head) r x reads answers),
+      subst (λ (e : Back). AnswersAs c k.minor (gives (λ op request. h op)) o (reply_head e k.head) r x) t.backs
+          (answers_over k.minor (reply_head b.back k.head) r x reads answers),
     )
 
     matched : (p : Bool) (k : Called) (x : Option (List ℕ)) → MatchBool p (AnswersCall b (gives (λ op request. f op)) o k x) (x ≡ None)
@@ -189,10 +190,10 @@ module _ (b c : Binding) (t : AreTwins b c) (o : List ℕ) where
     matched true k x a = call_answered k x a
     matched false k x a = a
 
-    serves_over : (x : Option (List ℕ)) → Serves b (gives (λ op request. f op)) o x → Serves c (gives (λ op request. h op)) o x
-    serves_over x (inl (long, is)) = inl (long, is)
-    serves_over x (inr (inl (short, e, stops, answers))) = inr (inl (short, e, stops_over e stops, fault_over e x answers))
-    serves_over x (inr (inr (short, k, begins, serves))) = inr (inr (
+    serves_over : (m : ℕ) (x : Option (List ℕ)) → Serves b m (gives (λ op request. f op)) o x → Serves c m (gives (λ op request. h op)) o x
+    serves_over m x (inl (long, is)) = inl (long, is)
+    serves_over m x (inr (inl (short, e, stops, answers))) = inr (inl (short, e, stops_over e stops, fault_over m e x answers))
+    serves_over m x (inr (inr (short, k, begins, serves))) = inr (inr (
       short,
       k,
       begins_over b c t o k begins,
@@ -206,12 +207,12 @@ module _ (b c : Binding) (t : AreTwins b c) (o : List ℕ) where
 answer_alike : (b c : Binding) → AreTwins b c → (g : Given) (op : ℕ) → op < length b.ops → answer_of b g op ≡ answer_of c g op
 answer_alike b c t g op below = ap (λ (ty : Ty). or_blank ty (given_at g op)) (reply_alike b c t op below)
 
-message_over : (b c : Binding) → AreTwins b c → (g : Given) (o : Result (List ℕ) FromHexError) (a : List ℕ)
-    → IsOfMessage b (answer_of b g) o a → IsOfMessage c (answer_of c g) o a
-message_over b c t g (Err e) a h = h
-message_over b c t g (Ok o) a (x, serves, is) =
-    (x, serves_over b c t o (answer_of b g) (answer_of c g) (answer_alike b c t g) x serves, is)
+message_over : (b c : Binding) → AreTwins b c → (m : ℕ) (g : Given) (o : Result (List ℕ) FromHexError) (a : List ℕ)
+    → IsOfMessage b m (answer_of b g) o a → IsOfMessage c m (answer_of c g) o a
+message_over b c t m g (Err e) a h = h
+message_over b c t m g (Ok o) a (x, serves, is) =
+    (x, serves_over b c t o (answer_of b g) (answer_of c g) (answer_alike b c t g) m x serves, is)
 
-pub served_over : (b c : Binding) → AreTwins b c → (text line a : List ℕ) → IsServed b text line a → IsServed c text line a
-served_over b c t text line a (g, file, is) =
-    (g, file_over b c t text (Ok g) file, message_over b c t g (decode_of line) a is)
+pub served_over : (b c : Binding) → AreTwins b c → (m : ℕ) (text line a : List ℕ) → IsServed b m text line a → IsServed c m text line a
+served_over b c t m text line a (g, file, is) =
+    (g, file_over b c t text (Ok g) file, message_over b c t m g (decode_of line) a is)

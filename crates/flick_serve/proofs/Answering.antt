@@ -35,75 +35,76 @@ same_answer b places op =
 
 -- the answer by the table is one by the file
 served_by : (s : Serving) (places : Places) → IsServing s places → (line a : List ℕ)
-    → IsOfMessage s.coded.binding (answer_at (with_table s.coded.binding places)) (decode_of line) a
-    → IsServed s.coded.binding s.text line a
+    → IsOfMessage s.coded.binding s.coded.minor (answer_at (with_table s.coded.binding places)) (decode_of line) a
+    → IsServed s.coded.binding s.coded.minor s.text line a
 served_by s places serving line a h =
     let b : Binding = s.coded.binding in
     let same : answer_at (with_table b places) ≡ answer_of b (given_in places) = fun_ext (same_answer b places) in (
       given_in places,
       serving.given,
-      subst (λ (f : ℕ → Val). IsOfMessage b f (decode_of line) a) same h,
+      subst (λ (f : ℕ → Val). IsOfMessage b s.coded.minor f (decode_of line) a) same h,
     )
 
 -- ---- each line has an answer
 
-of_message : (b : Binding) (answer : ℕ → Val) → IsFit b → (line : List ℕ) (o : Result (List ℕ) FromHexError) → decode_of line ≡ o
-    → (a : List ℕ) × IsOfMessage b answer o a
-of_message b answer fit line (Err e) is = (codes "! hex", refl)
-of_message b answer fit line (Ok o) is =
+of_message : (b : Binding) (m : ℕ) (answer : ℕ → Val) → IsFit b → (line : List ℕ) (o : Result (List ℕ) FromHexError) → decode_of line ≡ o
+    → (a : List ℕ) × IsOfMessage b m answer o a
+of_message b m answer fit line (Err e) is = (codes "! hex", refl)
+of_message b m answer fit line (Ok o) is =
     let (x, serves) =
-    served_somehow b (λ op request. answer op) fit.requests o (all_octets o (decode_of-ok line o is).3) in
+    served_somehow b m (λ op request. answer op) fit.requests o (all_octets o (decode_of-ok line o is).3) in
     (reply_text x, (x, serves, refl))
 
 served_somewhat : (s : Serving) (places : Places) → IsServing s places → IsFit s.coded.binding → (line : List ℕ)
-    → (a : List ℕ) × IsServed s.coded.binding s.text line a
+    → (a : List ℕ) × IsServed s.coded.binding s.coded.minor s.text line a
 served_somewhat s places serving fit line =
     let (a, is) =
-    of_message s.coded.binding (answer_of s.coded.binding (given_in places)) fit line (decode_of line) refl in
+    of_message s.coded.binding s.coded.minor (answer_of s.coded.binding (given_in places)) fit line (decode_of line) refl in
     (a, (given_in places, serving.given, is))
 
 -- ---- as the answers of calls
 
 -- the answer to digits that spell a message
-pub digits_answer : {E : Type 0} (b : Binding) (answer : ℕ → Val) (line message slice : List ℕ) (y : Result (List ℕ) E)
-    → decode_of line ≡ Ok message → slice ≡ message → IfOk y (λ o. IsOfMessage b answer (Ok slice) o)
-    → IfOk y (λ o. IsOfMessage b answer (decode_of line) o)
-digits_answer b answer line message slice y is same h =
-    let spelled = subst (λ (m : List ℕ). IfOk y (λ o. IsOfMessage b answer (Ok m) o)) same h in
-    subst (λ (d : Result (List ℕ) FromHexError). IfOk y (λ o. IsOfMessage b answer d o)) (sym is) spelled
+pub digits_answer : {E : Type 0} (b : Binding) (m : ℕ) (answer : ℕ → Val) (line message slice : List ℕ) (y : Result (List ℕ) E)
+    → decode_of line ≡ Ok message → slice ≡ message → IfOk y (λ o. IsOfMessage b m answer (Ok slice) o)
+    → IfOk y (λ o. IsOfMessage b m answer (decode_of line) o)
+digits_answer b m answer line message slice y is same h =
+    let spelled = subst (λ (l : List ℕ). IfOk y (λ o. IsOfMessage b m answer (Ok l) o)) same h in
+    subst (λ (d : Result (List ℕ) FromHexError). IfOk y (λ o. IsOfMessage b m answer d o)) (sym is) spelled
 
 -- the digits of a reply
-pub reply_answer : {E : Type 0} (b : Binding) (answer : ℕ → Val) (message octets : List ℕ) (y : Result (List ℕ) E)
-    → Serves b (gives (λ op request. answer op)) message (Some octets) → IfOk y (λ o. o ≡ encode_lower octets)
-    → IfOk y (λ o. IsOfMessage b answer (Ok message) o)
-reply_answer b answer message octets (Ok o) serves is = (Some octets, serves, is)
-reply_answer b answer message octets (Err e) serves is = tt
+pub reply_answer : {E : Type 0} (b : Binding) (m : ℕ) (answer : ℕ → Val) (message octets : List ℕ) (y : Result (List ℕ) E)
+    → Serves b m (gives (λ op request. answer op)) message (Some octets) → IfOk y (λ o. o ≡ encode_lower octets)
+    → IfOk y (λ o. IsOfMessage b m answer (Ok message) o)
+reply_answer b m answer message octets (Ok o) serves is = (Some octets, serves, is)
+reply_answer b m answer message octets (Err e) serves is = tt
 
 -- the answer of a server that is seen as this
 pub line_served : {E : Type 0} (s t : Serving) (places : Places) (kept : Kept) (line : List ℕ) (y : Result (List ℕ) E) → t ≡ s
     → IsServing t places → kept ≡ with_table t.coded.binding places
-    → IfOk y (λ o. IsOfMessage t.coded.binding (answer_at kept) (decode_of line) o)
-    → IfOk y (λ o. IsServed s.coded.binding s.text line o)
+    → IfOk y (λ o. IsOfMessage t.coded.binding t.coded.minor (answer_at kept) (decode_of line) o)
+    → IfOk y (λ o. IsServed s.coded.binding s.coded.minor s.text line o)
 line_served s t places kept line (Ok o) same serving is h =
     let there =
     served_by t places serving line o
-    (subst (λ (k : Kept). IsOfMessage t.coded.binding (answer_at k) (decode_of line) o) is h) in
-    subst (λ (x : Serving). IsServed x.coded.binding x.text line o) same there
+    (subst (λ (k : Kept). IsOfMessage t.coded.binding t.coded.minor (answer_at k) (decode_of line) o) is h) in
+    subst (λ (x : Serving). IsServed x.coded.binding x.coded.minor x.text line o) same there
 line_served s t places kept line (Err e) same serving is h = tt
 
 -- each line has an answer
 pub lines_served : (s t : Serving) (places : Places) → t ≡ s → IsServing t places → IsFit t.coded.binding → (line : List ℕ)
-    → (a : List ℕ) × IsServed s.coded.binding s.text line a
+    → (a : List ℕ) × IsServed s.coded.binding s.coded.minor s.text line a
 lines_served s t places same serving fit line =
-    subst (λ (x : Serving). (a : List ℕ) × IsServed x.coded.binding x.text line a) same (served_somewhat t places serving fit line)
+    subst (λ (x : Serving). (a : List ℕ) × IsServed x.coded.binding x.coded.minor x.text line a) same
+    (served_somewhat t places serving fit line)
 
 -- ---- one alone
 
-message_once : (b : Binding) (answer : ℕ → Val) (o : Result (List ℕ) FromHexError) (a c : List ℕ) → IsOfMessage b answer o a
-    → IsOfMessage b answer o c → a ≡ c
-message_once b answer (Err e) a c h k = h ∙ sym k
-message_once b answer (Ok o) a c (x, serves, is) (y, serves', is') =
-    is ∙ ap reply_text (served_once b (λ op request. answer op) o x y serves serves') ∙ sym is'
+message_once : (b : Binding) (m : ℕ) (answer : ℕ → Val) (o : Result (List ℕ) FromHexError) (a c : List ℕ) → IsOfMessage b m answer o a
+    → IsOfMessage b m answer o c → a ≡ c
+message_once b m answer (Err e) a c h k = h ∙ sym k
+message_once b m answer (Ok o) a c (x, serves, is) (y, serves', is') =
+    is ∙ ap reply_text (served_once b m (λ op request. answer op) o x y serves serves') ∙ sym is'
 
 -- all replies of a file
 abbrev pub all_given : Given → Result Given ℕ
@@ -113,7 +114,7 @@ pub same_given : (g h : Given) → all_given g ≡ all_given h → g ≡ h
 same_given g h e = cc
 
 pub line_once : IsServedOnce
-line_once b text line a c (g, file, is) (h, file', is') =
+line_once b m text line a c (g, file, is) (h, file', is') =
     let same : h ≡ g = same_given h g (given_once b text (Ok h) (Ok g) file' file) in
-    message_once b (answer_of b g) (decode_of line) a c is
-    (subst (λ (f : Given). IsOfMessage b (answer_of b f) (decode_of line) c) same is')
+    message_once b m (answer_of b g) (decode_of line) a c is
+    (subst (λ (f : Given). IsOfMessage b m (answer_of b f) (decode_of line) c) same is')

@@ -59,14 +59,14 @@ IsNowhere Is = (op : ℕ) (v : Val) → Is op v → ⊥
 
 -- the message of a reply that a record presents is too long
 too_long : (b : Binding) (r : Begun) (v : Val) → Presents r.face r.tree v
-    → longest_message < length (reply_message b r.op r.head v) → IsNowhere (IsReplyOf b (Ok r))
+    → longest_message < length (reply_message b 0 r.op r.head v) → IsNowhere (IsReplyOf b (Ok r))
 too_long b r v p long op w h =
-    let short : length (reply_message b r.op r.head v) ≤ longest_message =
-    subst (λ (u : Val). IsShort (reply_message b r.op r.head u)) (one_value r w v h.1 p) h.2 in
+    let short : length (reply_message b 0 r.op r.head v) ≤ longest_message =
+    subst (λ (u : Val). IsShort (reply_message b 0 r.op r.head u)) (one_value r w v h.1 p) h.2 in
     absurd (omega (arith, long, short))
 
 by_length : (b : Binding) (r : Begun) (v : Val) → Presents r.face r.tree v
-    → (longest_message < length (reply_message b r.op r.head v)) ⊎ (length (reply_message b r.op r.head v) ≤ longest_message)
+    → (longest_message < length (reply_message b 0 r.op r.head v)) ⊎ (length (reply_message b 0 r.op r.head v) ≤ longest_message)
     → IsThere (IsReplyOf b (Ok r)) ⊎ IsNowhere (IsReplyOf b (Ok r))
 by_length b r v p (inl long) = inr (too_long b r v p long)
 by_length b r v p (inr short) = inl (r.op, v, (refl, p, short))
@@ -74,7 +74,7 @@ by_length b r v p (inr short) = inl (r.op, v, (refl, p, short))
 by_value : (b : Binding) (r : Begun) → IsPresented r.face r.tree ⊎ (IsPresented r.face r.tree → ⊥)
     → IsThere (IsReplyOf b (Ok r)) ⊎ IsNowhere (IsReplyOf b (Ok r))
 by_value b r (inl (v, p)) =
-    let m : List ℕ = reply_message b r.op r.head v in
+    let m : List ℕ = reply_message b 0 r.op r.head v in
     by_length b r v p (above_or_not longest_message (length m) (nat_lt longest_message (length m)) refl)
 by_value b r (inr none) = inr (λ op v h. none (v, h.1))
 
@@ -94,10 +94,10 @@ given_or_none b line = in_tree_or_none b (tree_of line)
 
 -- the message of a record that was read is that of the record that was begun
 same_message : (b : Binding) (begun : Begun) (r : RequestRec) → Comes (Ok begun) (Ok r)
-    → message_of b r ≡ reply_message b begun.op begun.head (seen r.value)
+    → message_of b r ≡ reply_message b 0 begun.op begun.head (seen r.value)
 same_message b begun r comes =
-    ap (λ n. reply_message b n r.head (seen r.value)) comes.0
-    ∙ ap (λ (h : Head). reply_message b begun.op h (seen r.value)) comes.1
+    ap (λ n. reply_message b 0 n r.head (seen r.value)) comes.0
+    ∙ ap (λ (h : Head). reply_message b 0 begun.op h (seen r.value)) comes.1
 
 -- what is found of a record that was read, unless its message is too long
 pub found_by : (b : Binding) (x : Result Begun RecordErr) (r : RequestRec) → Comes x (Ok r) → (o : Option RequestRec)
@@ -105,7 +105,7 @@ pub found_by : (b : Binding) (x : Result Begun RecordErr) (r : RequestRec) → C
     → Finds (IsReplyOf b x) o
 found_by b (Err e) r comes o same short long = absurd comes
 found_by b (Ok begun) r comes (Some s) same short long =
-    let fits : IsShort (reply_message b begun.op begun.head (seen r.value)) =
+    let fits : IsShort (reply_message b 0 begun.op begun.head (seen r.value)) =
     subst (λ (m : List ℕ). IsShort m) (same_message b begun r comes) short in
     subst (λ (t : RequestRec). IsReplyOf b (Ok begun) t.op (seen t.value)) (sym same) (comes.0, comes.2, fits)
 found_by b (Ok begun) r comes None same short long =

@@ -104,7 +104,7 @@ module _ (c : Coded) (answer : ℕ → Val) (o : List ℕ) where
         let same = (one_head c.binding o).one_head call d replied.begins begins in
         not_true (is_answered c.binding call) replied.answered (ap (λ (z : Called). is_answered c.binding z) same ∙ silent))
 
-    pub cost_somehow : (x : Option (List ℕ)) → Serves c.binding work o x → HasCost
+    pub cost_somehow : (x : Option (List ℕ)) → Serves c.binding c.minor work o x → HasCost
     cost_somehow x (inl (long, none)) =
         nothing_owed (λ call q replied. let (d, op, names, after) = replied.asks in omega (arith, long, names.0))
     cost_somehow x (inr (inl (short, e, stops, fault))) =
@@ -115,17 +115,17 @@ module _ (c : Coded) (answer : ℕ → Val) (o : List ℕ) where
 
   -- the counts are those of the reply's code, where its message is within the limit
   counts_of : (call : Called) (r : Asked) (x : Option (List ℕ)) (spent : Tally) (new : Buf)
-      → AnswersByCode c work o (reply_head c.binding.back call.head) r x spent new → IsShort (reply_to c answer call r)
-      → IsAnsweredByCode c.stubs r.op (reply_head c.binding.back call.head) (answer r.op) spent new
+      → AnswersByCode c call.minor work o (reply_head c.binding.back call.head) r x spent new → IsShort (reply_to c answer call r)
+      → IsAnsweredByCode c.stubs call.minor r.op (reply_head c.binding.back call.head) (answer r.op) spent new
   counts_of call r x spent new (w, is, replies, by) short =
-      subst (λ (z : Val). RepliesByCode c (reply_head c.binding.back call.head) r.op z spent new) is by short
+      subst (λ (z : Val). RepliesByCode c call.minor (reply_head c.binding.back call.head) r.op z spent new) is by short
 
   -- nothing is owed
   paid_free : (spent now : Tally) → NoneFell spent now → IsPaidFor false (Some no_cost) spent now
   paid_free spent now stands = (subst (λ (t : Tally). NoneFell t now) (paid-none spent) stands, λ known. absurd (cc known))
 
   -- at least what the answer costs was paid
-  paid_for : (spent : Tally) (new : Buf) (x : Option (List ℕ)) → Serves c.binding work o x → ServesByCode c work o x spent new
+  paid_for : (spent : Tally) (new : Buf) (x : Option (List ℕ)) → Serves c.binding c.minor work o x → ServesByCode c work o x spent new
       → NoneFell spent new.spent → (k : Option Cost) × IsCostOf c answer o k × IsPaidFor false k spent new.spent
   paid_for spent new x serves by stands =
       cost_somehow (λ k. IsPaidFor false k spent new.spent) (paid_free spent new.spent stands)
@@ -140,7 +140,7 @@ message_alone : (c : Coded) (answer : ℕ → Val) (d : Result (List ℕ) FromHe
     → IsMessageSent c answer d t → s ≡ t
 message_alone c answer (Err e) s t is other = is ∙ sym other
 message_alone c answer (Ok o) s t (x, k, serves, cost, is) (y, l, also, other_cost, other) =
-    let same = served_once c.binding (λ op request. answer op) o x y serves also in
+    let same = served_once c.binding c.minor (λ op request. answer op) o x y serves also in
     is ∙ ap (λ (z : Option (List ℕ)). sends (unwrap_or z []) k) same
     ∙ ap (λ (n : Option Cost). sends (unwrap_or y []) n) (one_cost c answer o k l cost other_cost) ∙ sym other
 
@@ -151,7 +151,7 @@ one_sending s line x y (g, gives, is) (h, also, other) =
     message_alone s.coded (answer_of s.coded.binding g) (decode_of line) x y is
     (subst (λ (f : Given). IsMessageSent s.coded (answer_of s.coded.binding f) (decode_of line) y) same other)
 
-message_somehow : (c : Coded) (answer : ℕ → Val) (d : Result (List ℕ) FromHexError) (a : List ℕ) → IsOfMessage c.binding answer d a
+message_somehow : (c : Coded) (answer : ℕ → Val) (d : Result (List ℕ) FromHexError) (a : List ℕ) → IsOfMessage c.binding c.minor answer d a
     → (s : Sending) × IsMessageSent c answer d s
 message_somehow c answer (Err e) a is = (nothing, refl)
 message_somehow c answer (Ok o) a (x, serves, is) =
@@ -159,7 +159,8 @@ message_somehow c answer (Ok o) a (x, serves, is) =
     (sends (unwrap_or x []) k, (x, k, serves, cost, refl))
 
 -- of a line that is answered something is sent, or nothing
-pub some_sending : (s : Serving) (line a : List ℕ) → IsServed s.coded.binding s.text line a → (x : Sending) × IsServeSent s line x
+pub some_sending : (s : Serving) (line a : List ℕ) → IsServed s.coded.binding s.coded.minor s.text line a
+    → (x : Sending) × IsServeSent s line x
 some_sending s line a (g, gives, is) =
     let (x, sent) = message_somehow s.coded (answer_of s.coded.binding g) (decode_of line) a is in
     (x, (g, gives, sent))
@@ -172,7 +173,7 @@ held_reply Reply octets silent = refl
 held_reply Silent octets silent = silent refl
 
 message_paid : (c : Coded) (answer : ℕ → Val) (o : List ℕ) (served : Served) (old new : Buf)
-    → Serves c.binding (gives (λ op request. answer op)) o (reply_in served new.done)
+    → Serves c.binding c.minor (gives (λ op request. answer op)) o (reply_in served new.done)
     → ServesByCode c (gives (λ op request. answer op)) o (reply_in served new.done) old.spent new
     → (served ≡ Silent → new.done ≡ []) → NoneFell old.spent new.spent → IsMessagePaid c answer (Ok o) old new
 message_paid c answer o served old new serves by silent stands =
@@ -186,7 +187,7 @@ message_paid c answer o served old new serves by silent stands =
 
 -- what was answered to a message
 pub served_paid : {X E : Type 0} (c : Coded) (answer : ℕ → Val) (message octets : List ℕ) (served : Served) (y : Result X E) (old new : Buf)
-    → octets ≡ message → Serves c.binding (gives (λ op request. answer op)) octets (reply_in served new.done)
+    → octets ≡ message → Serves c.binding c.minor (gives (λ op request. answer op)) octets (reply_in served new.done)
     → ServesByCode c (gives (λ op request. answer op)) octets (reply_in served new.done) old.spent new
     → (served ≡ Silent → new.done ≡ []) → NoneFell old.spent new.spent → OnOk y (IsMessagePaid c answer (Ok message) old new)
 served_paid c answer message octets served (Err e) old new same serves by silent stands = tt

@@ -20,10 +20,10 @@ use Rattle.flick_serve.specs.declared.given.WrongLine.{WrongLine}
 
 -- ---- the reply on a line
 
--- a record that was begun presents this reply to this operation, whose message is not too long
+-- a record that was begun presents this reply to this operation, whose message, of one length in each version, is not too long
 abbrev pub IsReplyOf : Binding → Result Begun RecordErr → ℕ → Val → Type 0
 IsReplyOf b (Err e) op v = ⊥
-IsReplyOf b (Ok r) op v = (op ≡ r.op) × Presents r.face r.tree v × IsShort (reply_message b r.op r.head v)
+IsReplyOf b (Ok r) op v = (op ≡ r.op) × Presents r.face r.tree v × IsShort (reply_message b 0 r.op r.head v)
 
 -- the same of a tree as a reply record without a head number, where there is a tree
 abbrev pub IsInTree : Binding → Option Data → ℕ → Val → Type 0
@@ -83,7 +83,7 @@ unless_wrong (Some line) places = Err line
 
 -- the message of a record's reply
 abbrev pub message_of : Binding → RequestRec → List ℕ
-message_of b r = reply_message b r.op r.head (seen r.value)
+message_of b r = reply_message b 0 r.op r.head (seen r.value)
 
 -- a record that was found is one of these replies, or none is there
 abbrev pub Finds : (ℕ → Val → Type 0) → Option RequestRec → Type 0

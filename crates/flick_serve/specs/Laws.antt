@@ -14,4 +14,4 @@ IsGivenSomehow = (b : Binding) (text : List ℕ) → (x : Result Given ℕ) × F
 
 -- the answer to a line is determined
 abbrev pub IsServedOnce : Type 0
-IsServedOnce = (b : Binding) (text line a c : List ℕ) → IsServed b text line a → IsServed b text line c → a ≡ c
+IsServedOnce = (b : Binding) (m : ℕ) (text line a c : List ℕ) → IsServed b m text line a → IsServed b m text line c → a ≡ c

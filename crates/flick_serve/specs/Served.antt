@@ -27,15 +27,15 @@ abbrev pub reply_text : Option (List ℕ) → List ℕ
 reply_text None = codes "-"
 reply_text (Some o) = encode_lower o
 
--- the answer to what hexadecimal digits spell, by the answers of the operations
-abbrev pub IsOfMessage : Binding → (ℕ → Val) → Result (List ℕ) FromHexError → List ℕ → Type 0
-IsOfMessage b answer (Err e) a = a ≡ codes "! hex"
-IsOfMessage b answer (Ok message) a =
-    (x : Option (List ℕ)) × Serves b (gives (λ op request. answer op)) message x × (a ≡ reply_text x)
+-- the answer to what hexadecimal digits spell, by the answers of the operations, where faults are answered in a version
+abbrev pub IsOfMessage : Binding → ℕ → (ℕ → Val) → Result (List ℕ) FromHexError → List ℕ → Type 0
+IsOfMessage b m answer (Err e) a = a ≡ codes "! hex"
+IsOfMessage b m answer (Ok message) a =
+    (x : Option (List ℕ)) × Serves b m (gives (λ op request. answer op)) message x × (a ≡ reply_text x)
 
 -- the answer to a line as the digits of a message, without its line feed, by the replies of a file
-abbrev pub IsServed : Binding → List ℕ → List ℕ → List ℕ → Type 0
-IsServed b text line a = (g : Given) × FileGives b text (Ok g) × IsOfMessage b (answer_of b g) (decode_of line) a
+abbrev pub IsServed : Binding → ℕ → List ℕ → List ℕ → List ℕ → Type 0
+IsServed b m text line a = (g : Given) × FileGives b text (Ok g) × IsOfMessage b m (answer_of b g) (decode_of line) a
 
 -- ---- servers
 

@@ -17,13 +17,13 @@ use Rattle.flick_lines.specs.Sent.{Sending, nothing, sends, Sends}
 use Rattle.flick_serve.specs.Given.{Given, FileGives}
 use Rattle.flick_serve.specs.Served.{Serving, answer_of}
 
--- the message of the reply to a request, by the answers of the operations
+-- the message of the reply to a request, in its version, by the answers of the operations
 abbrev pub reply_to : Coded → (ℕ → Val) → Called → Asked → List ℕ
-reply_to c answer call r = reply_message c.binding r.op (reply_head c.binding.back call.head) (answer r.op)
+reply_to c answer call r = reply_message c.binding call.minor r.op (reply_head c.binding.back call.head) (answer r.op)
 
 -- what the code costs that makes it
 abbrev pub cost_to : Coded → (ℕ → Val) → Called → Asked → Option Cost
-cost_to c answer call r = answer_cost c.stubs r.op (reply_head c.binding.back call.head) (answer r.op)
+cost_to c answer call r = answer_cost c.stubs call.minor r.op (reply_head c.binding.back call.head) (answer r.op)
 
 -- a message is a request, to a call that is answered, and the message of its reply is not too long
 pub record IsRepliedTo (c : Coded) (answer : ℕ → Val) (o : List ℕ) (call : Called) (r : Asked) : Type 0 where
@@ -42,7 +42,7 @@ IsCostOf c answer o k =
 abbrev pub IsMessageSent : Coded → (ℕ → Val) → Result (List ℕ) FromHexError → Sending → Type 0
 IsMessageSent c answer (Err e) s = s ≡ nothing
 IsMessageSent c answer (Ok o) s = (x : Option (List ℕ)) × (k : Option Cost)
-    × Serves c.binding (gives (λ op request. answer op)) o x × IsCostOf c answer o k × (s ≡ sends (unwrap_or x []) k)
+    × Serves c.binding c.minor (gives (λ op request. answer op)) o x × IsCostOf c answer o k × (s ≡ sends (unwrap_or x []) k)
 
 -- what is sent in answer to a line, by the replies of a file
 abbrev pub IsServeSent : Serving → List ℕ → Sending → Type 0

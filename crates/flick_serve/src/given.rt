@@ -167,7 +167,7 @@ fn unless_long(
     ensures long { IfOk result
         (λ o. IfNone o (longest_message < length (message_of engine.now.binding reply))) }
 {
-    match engine.marshal_reply(reply.op, &reply.head, &reply.value, buf) {
+    match engine.reply_in_version(reply.op, 0, &reply.head, &reply.value, buf) {
         Ok(()) => Ok(Some(reply)),
         Err(MarshalErr::Long) => Ok(None),
         Err(MarshalErr::NoMemory) => Err(NoMemory),

@@ -90,7 +90,8 @@ impl Server {
 
     /// The answer of `serve` to a line, without its line feed. The reply is made in the buffer.
     pub fn answer(&self, alloc: Global, line: &[u8], buf: &mut SendBuf) -> Result<Octets, NoMemory>
-        ensures value { IfOk result (λ o. IsServed self.now.coded.binding self.now.text line.now o) }
+        ensures value { IfOk result
+            (λ o. IsServed self.now.coded.binding self.now.coded.minor self.now.text line.now o) }
         ensures paid { OnOk result (IsServePaid self.now line.now buf.old buf.new) }
         ensures spent { NoneFell buf.old.spent buf.new.spent }
     {
@@ -100,7 +101,8 @@ impl Server {
 
     /// Each line has an answer. It does nothing.
     pub fn lines_are_answered(&self)
-        ensures { (line : List ℕ) → (a : List ℕ) × IsServed self.now.coded.binding self.now.text line a }
+        ensures { (line : List ℕ) → (a : List ℕ)
+            × IsServed self.now.coded.binding self.now.coded.minor self.now.text line a }
     {
         self.engine.bound().mint().types_are_sound();
     }
@@ -116,7 +118,7 @@ fn of_line(
 ) -> Result<Octets, NoMemory>
     requires { kept.now.binding ≡ engine.now.binding }
     ensures value { IfOk result (λ o.
-        IsOfMessage engine.now.binding (answer_at kept.now) (decode_of line.now) o) }
+        IsOfMessage engine.now.binding engine.now.minor (answer_at kept.now) (decode_of line.now) o) }
     ensures paid { OnOk result
         (IsMessagePaid engine.now (answer_at kept.now) (decode_of line.now) buf.old buf.new) }
     ensures spent { NoneFell buf.old.spent buf.new.spent }
@@ -138,7 +140,7 @@ fn of_message(
 ) -> Result<Octets, NoMemory>
     requires { kept.now.binding ≡ engine.now.binding }
     ensures value { IfOk result (λ o.
-        IsOfMessage engine.now.binding (answer_at kept.now) (Ok message.now) o) }
+        IsOfMessage engine.now.binding engine.now.minor (answer_at kept.now) (Ok message.now) o) }
     ensures paid { OnOk result
         (IsMessagePaid engine.now (answer_at kept.now) (Ok message.now) buf.old buf.new) }
     ensures spent { NoneFell buf.old.spent buf.new.spent }

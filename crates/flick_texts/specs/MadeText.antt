@@ -23,21 +23,21 @@ made_head i = record { id = i; remote = 0; local = 0; wants = true; order = Big 
 abbrev pub made_value : Binding → ℕ → ℕ → Val
 made_value b number i = made (request_type b (turn b i)) ((number + i) % 2 ^ 64)
 
--- the message of request i
-abbrev pub made_message : Binding → ℕ → ℕ → List ℕ
-made_message b number i = message b (turn b i) (made_head i) (made_value b number i)
+-- the message of request i in a version
+abbrev pub made_message : Binding → ℕ → ℕ → ℕ → List ℕ
+made_message b m number i = message b m (turn b i) (made_head i) (made_value b number i)
 
 -- so many requests; none where there is no operation
 abbrev pub so_many_of : Binding → ℕ → ℕ
 so_many_of b many = if length b.ops == 0 then 0 else many
 
 -- the messages of so many requests from 0 on
-abbrev pub messages : Binding → ℕ → ℕ → List (List ℕ)
-messages b number many = messages_from (made_message b number) 0 (so_many_of b many)
+abbrev pub messages : Binding → ℕ → ℕ → ℕ → List (List ℕ)
+messages b m number many = messages_from (made_message b m number) 0 (so_many_of b many)
 
 -- what is said of the messages of so many requests
-abbrev pub make_text : Binding → ℕ → ℕ → List ℕ
-make_text b number many = made_line (messages b number many)
+abbrev pub make_text : Binding → ℕ → ℕ → ℕ → List ℕ
+make_text b m number many = made_line (messages b m number many)
 
 -- ---- what becomes of a request
 

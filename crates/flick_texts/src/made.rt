@@ -26,7 +26,7 @@ pub fn make_text(
     many: u32,
     buf: &mut SendBuf,
 ) -> Result<Octets, NoMemory>
-    ensures value { IfOk result (λ t. t ≡ make_text engine.now.binding number many) }
+    ensures value { IfOk result (λ t. t ≡ make_text engine.now.binding engine.now.minor number many) }
     ensures sends { OnOk result (IsSpentBy true (all_sent engine.now number many) buf.old buf.new) }
     ensures spent { NoneFell buf.old.spent buf.new.spent }
 {
@@ -47,7 +47,7 @@ fn sums_of(
 ) -> Result<Sums, NoMemory>
     requires { 0 < length engine.now.binding.ops }
     ensures sums { IfOk result (λ s.
-        Counts s [] (messages_from (made_message engine.now.binding number) 0 many)) }
+        Counts s [] (messages_from (made_message engine.now.binding engine.now.minor number) 0 many)) }
     ensures sends { OnOk result (IsSpentBy true (sent_from engine.now number 0 many) buf.old buf.new) }
     ensures spent { NoneFell buf.old.spent buf.new.spent }
 {
@@ -69,7 +69,7 @@ fn make_message(
 ) -> Result<Trip, NoMemory>
     requires { 0 < length engine.now.binding.ops }
     ensures trip { IfOk result (λ t. IsTrip engine.now.binding
-        (made_message engine.now.binding number i) t buf.new.done) }
+        (made_message engine.now.binding engine.now.minor number i) t buf.new.done) }
     ensures paid { OnOk result (call_by_code engine.now (turn engine.now.binding i) (made_head i)
         (made_value engine.now.binding number i) buf.old buf.new) }
     ensures spent { NoneFell buf.old.spent buf.new.spent }

@@ -10,6 +10,8 @@ use Rattle.pres.specs.Bindings.{Binding}
 use Rattle.pres.specs.Faults.{bind_fault}
 use Rattle.stub_codes.specs.declared.stub.Stub.{Stub}
 use Rattle.stub_codes.specs.Stubs.{Coded}
+use Rattle.flick_engine.specs.declared.wire.Wire.{Wire}
+use Rattle.flick_engine.specs.Backs.{back_in}
 use Rattle.flick_lines.proofs.Twins.{AreTwins}
 use Rattle.flick_top.specs.declared.command.Named.{Named}
 use Rattle.flick_top.specs.declared.saying.Saying.TheVariants as sayings
@@ -32,9 +34,10 @@ file_says k (Some text) r s p q = within_says k text r s (nat_le (length text) l
 
 -- ---- what is made of it
 
--- engines over bindings of one unit over one back end, with the same codes where these are shown
+-- engines over bindings of one unit over one back end, of one version, with the same codes where these are shown
 pub record AreAlike (Shown : Type 0) (d e : Coded) : Type 0 where
   pub twins : AreTwins d.binding e.binding
+  pub minors : d.minor ≡ e.minor
   pub codes : Shown → d.stubs ≡ e.stubs
 
 -- one saying, or engines that answer alike
@@ -52,22 +55,26 @@ module _ (Shown : Type 0) (codes others : List Stub) (same : Shown → codes ≡
   reported_by r s x y p q h =
       subst (λ (z : Reported). AreReported Shown z s) (sym p) (subst (λ (z : Reported). AreReported Shown x z) (sym q) h)
 
-  bind_says : (k : Back) (u : PlainUnit) (e : Option BindErr) (r s : Reported)
-      → BindSays codes u k e r → BindSays others u k e s → AreReported Shown r s
-  bind_says k u (Some e) r s p q = reported_by r s (Err (sayings.Bind e)) (Err (sayings.Bind e)) p q refl
-  bind_says k u None (Ok c) (Ok d) p q =
-      record { twins = twins k u c.binding d.binding p.0 q.0; codes = λ shown. p.1 ∙ same shown ∙ sym q.1 }
-  bind_says k u None (Ok c) (Err f) p q = absurd q
-  bind_says k u None (Err e) s p q = absurd p
+  bind_says : (w : Wire) (u : PlainUnit) (e : Option BindErr) (r s : Reported)
+      → BindSays codes u w e r → BindSays others u w e s → AreReported Shown r s
+  bind_says w u (Some e) r s p q = reported_by r s (Err (sayings.Bind e)) (Err (sayings.Bind e)) p q refl
+  bind_says w u None (Ok c) (Ok d) p q =
+      record {
+        twins = twins (back_in w) u c.binding d.binding p.0.0 q.0.0;
+        minors = p.0.1 ∙ sym q.0.1;
+        codes = λ shown. p.1 ∙ same shown ∙ sym q.1;
+      }
+  bind_says w u None (Ok c) (Err f) p q = absurd q
+  bind_says w u None (Err e) s p q = absurd p
 
-  bound_says : (k : Back) (read : Read) (r s : Reported)
-      → BoundSays codes k read r → BoundSays others k read s → AreReported Shown r s
-  bound_says k (Err e) r s p q = reported_by r s (Err e) (Err e) p q refl
-  bound_says k (Ok u) r s p q = bind_says k u (bind_fault u k) r s p q
+  bound_says : (w : Wire) (read : Read) (r s : Reported)
+      → BoundSays codes w read r → BoundSays others w read s → AreReported Shown r s
+  bound_says w (Err e) r s p q = reported_by r s (Err e) (Err e) p q refl
+  bound_says w (Ok u) r s p q = bind_says w u (bind_fault u (back_in w)) r s p q
 
   -- what is made of one content, where engines have these codes
   pub reported_alike : (n : Named) (content : Option (List ℕ)) (r s : Reported)
       → IsMadeOf codes n content r → IsMadeOf others n content s → AreReported Shown r s
   reported_alike n content r s (x, px, pr) (y, py, ps) =
       let one : x ≡ y = file_says n.front content x y px py in
-      bound_says n.back y r s (subst (λ (z : Read). BoundSays codes n.back z r) one pr) ps
+      bound_says n.wire y r s (subst (λ (z : Read). BoundSays codes n.wire z r) one pr) ps

@@ -79,7 +79,8 @@ served-acts (Err f) action replies e words told path buf is at serves = tt
 -- to write what is counted of messages that were sent
 pub made-acts : (action : Action) (number many : ℕ) (e : Coded) (words : List (List ℕ)) (files : Files) (p : Prepared) (text : List ℕ)
     (old new : Buf) → action ≡ Make number many → ((before : List Sending) → task_in p before ≡ writing_task text before (Some e))
-    → text ≡ make_text e.binding number many → IsSpentBy true (all_sent e number many) old new → ActsIn action e words files p old new
+    → text ≡ make_text e.binding e.minor number many → IsSpentBy true (all_sent e number many) old new
+    → ActsIn action e words files p old new
 made-acts action number many e words files p text old new is task same spent =
     let ss = all_sent e number many in
     let alone : p.feed ≡ None = ap (λ (t : Task). t.feed) (task ss) in (

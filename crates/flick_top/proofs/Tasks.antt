@@ -2,7 +2,6 @@
 use Rattle.std.proofs.Common.{◌≡◌, ℕ, Bool, true, false, List, [], length, Option, Some, None, Ok, Err, refl}
 use Rattle.std.specs.Prelude.{nat_le, MatchBool}
 use Rattle.kit_base.specs.Limits.{longest_file}
-use Rattle.wire_def.specs.declared.encoding.Back.{Back}
 use Rattle.idl_lex.specs.declared.kinds.Front.{Front}
 use Rattle.aoi.specs.Plain.{PlainUnit, IsSoundPlain}
 use Rattle.pres.specs.declared.errors.BindErr.{BindErr}
@@ -10,6 +9,8 @@ use Rattle.pres.specs.Faults.{bind_fault}
 use Rattle.pres.proofs.Existing.{units_bound}
 use Rattle.stub_codes.specs.declared.stub.Stub.{Stub}
 use Rattle.stub_codes.specs.Stubs.{Coded}
+use Rattle.flick_engine.specs.declared.wire.Wire.{Wire}
+use Rattle.flick_engine.specs.Backs.{back_in, minor_in}
 use Rattle.flick_serve.proofs.Deciding.{given_somehow}
 use Rattle.flick_texts.specs.MadeText.{make_text}
 use Rattle.flick_texts.specs.Spent.{all_sent}
@@ -30,16 +31,18 @@ use Rattle.flick_top.proofs.UnitsOfFronts.{IsSoundRead, unit_has}
 
 -- ---- over a back end
 
-bind_has : (codes : List Stub) (u : PlainUnit) (k : Back) (e : Option BindErr) → IsSoundPlain u → bind_fault u k ≡ e
-    → (reported : Reported) × BindSays codes u k e reported
-bind_has codes u k (Some e) sound is = (Err (sayings.Bind e), refl)
-bind_has codes u k None sound is =
-    let (b, stands, unit, of, nodes) = units_bound u k sound is in
-    (Ok (record { binding = b; stubs = codes }), (record { stands = stands; unit = unit; back = of; nodes = nodes }, refl))
+bind_has : (codes : List Stub) (u : PlainUnit) (w : Wire) (e : Option BindErr) → IsSoundPlain u → bind_fault u (back_in w) ≡ e
+    → (reported : Reported) × BindSays codes u w e reported
+bind_has codes u w (Some e) sound is = (Err (sayings.Bind e), refl)
+bind_has codes u w None sound is =
+    let (b, stands, unit, of, nodes) = units_bound u (back_in w) sound is in (
+      Ok (record { binding = b; minor = minor_in w; stubs = codes }),
+      ((record { stands = stands; unit = unit; back = of; nodes = nodes }, refl), refl),
+    )
 
-bound_has : (codes : List Stub) (k : Back) (read : Read) → IsSoundRead read → (reported : Reported) × BoundSays codes k read reported
-bound_has codes k (Err saying) sound = (Err saying, refl)
-bound_has codes k (Ok u) sound = bind_has codes u k (bind_fault u k) sound refl
+bound_has : (codes : List Stub) (w : Wire) (read : Read) → IsSoundRead read → (reported : Reported) × BoundSays codes w read reported
+bound_has codes w (Err saying) sound = (Err saying, refl)
+bound_has codes w (Ok u) sound = bind_has codes u w (bind_fault u (back_in w)) sound refl
 
 -- ---- a file
 
@@ -66,9 +69,11 @@ serves_has e (Some text) = within_serves e text (nat_le (length text) longest_re
 action_has : (a : Action) (e : Coded) (words : List (List ℕ)) (files : Files) → (task : Task) × Acts a e words files task
 action_has (actions.Serve replies) e words files = serves_has e (files (word_at words replies))
 action_has (actions.Answer verb) e words files = (answering_task (text_before verb e) (jobs.Over verb e), refl)
+action_has actions.Pipe e words files = (answering_task [] (jobs.Pipe e), refl)
+action_has actions.Unpipe e words files = (answering_task [] (jobs.Unpipe e), refl)
 action_has actions.Stubs e words files = (writing_task (stubs_text e) [] (Some e), refl)
 action_has (actions.Make number many) e words files =
-    (writing_task (make_text e.binding number many) (all_sent e number many) (Some e), refl)
+    (writing_task (make_text e.binding e.minor number many) (all_sent e number many) (Some e), refl)
 
 reported_has : (a : Action) (reported : Reported) (words : List (List ℕ)) (files : Files)
     → (task : Task) × ActsOver a reported words files task
@@ -85,7 +90,7 @@ command_has codes (Some (commands.Show front)) words files =
     (showing_task read, (read, says, refl))
 command_has codes (Some (commands.Over a n)) words files =
     let (read, says, sound) = file_has n.front (files (word_at words n.file)) in
-    let (reported, bound) = bound_has codes n.back read sound in
+    let (reported, bound) = bound_has codes n.wire read sound in
     let (task, acts) = reported_has a reported words files in
     (task, (reported, (read, says, bound), acts))
 

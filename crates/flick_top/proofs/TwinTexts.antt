@@ -72,25 +72,25 @@ count_alike b c t =
 turn_alike : (b c : Binding) → AreTwins b c → (i : ℕ) → turn b i ≡ turn c i
 turn_alike b c t i = ap (λ (n : ℕ). i % n) (count_alike b c t)
 
-made_message_alike : (b c : Binding) → AreTwins b c → 0 < length b.ops → (number i : ℕ)
-    → made_message b number i ≡ made_message c number i
-made_message_alike b c t some number i =
+made_message_alike : (b c : Binding) → AreTwins b c → (m : ℕ) → 0 < length b.ops → (number i : ℕ)
+    → made_message b m number i ≡ made_message c m number i
+made_message_alike b c t m some number i =
     let k = turn b i in
     let seed = (number + i) % 2 ^ 64 in
     let below : k < length b.ops = omega arith in
-    message_alike b c t k below (made_head i) (made (request_type b k) seed)
-    ∙ ap (λ (ty : Ty). message c k (made_head i) (made ty seed)) (request_alike b c t k below)
-    ∙ ap (λ (j : ℕ). message c j (made_head i) (made (request_type c j) seed)) (turn_alike b c t i)
+    message_alike b c t m k below (made_head i) (made (request_type b k) seed)
+    ∙ ap (λ (ty : Ty). message c m k (made_head i) (made ty seed)) (request_alike b c t k below)
+    ∙ ap (λ (j : ℕ). message c m j (made_head i) (made (request_type c j) seed)) (turn_alike b c t i)
 
 from_alike : (f g : ℕ → List ℕ) (i n : ℕ) → ((j : ℕ) → f j ≡ g j) → messages_from f i n ≡ messages_from g i n
 from_alike f g i zero same = refl
 from_alike f g i (suc n) same =
-    ap (λ (m : List ℕ). m ∷ messages_from f (suc i) n) (same i)
+    ap (λ (o : List ℕ). o ∷ messages_from f (suc i) n) (same i)
     ∙ ap (λ (ms : List (List ℕ)). g i ∷ ms) (from_alike f g (suc i) n same)
 
-messages_alike : (b c : Binding) → AreTwins b c → (number many : ℕ) → messages b number many ≡ messages c number many
-messages_alike b c t number many = go (length b.ops == 0) refl where
-  go : (none : Bool) → (length b.ops == 0) ≡ none → messages b number many ≡ messages c number many
+messages_alike : (b c : Binding) → AreTwins b c → (m number many : ℕ) → messages b m number many ≡ messages c m number many
+messages_alike b c t m number many = go (length b.ops == 0) refl where
+  go : (none : Bool) → (length b.ops == 0) ≡ none → messages b m number many ≡ messages c m number many
   go true e =
       let also : (length c.ops == 0) ≡ true = ap (λ (n : ℕ). n == 0) (sym (count_alike b c t)) ∙ e in
       rw (e, also) refl
@@ -98,7 +98,9 @@ messages_alike b c t number many = go (length b.ops == 0) refl where
       let also : (length c.ops == 0) ≡ false = ap (λ (n : ℕ). n == 0) (sym (count_alike b c t)) ∙ e in
       let some : 0 < length b.ops = grind (arith, nat_tests, e) in
       rw (e, also)
-      (from_alike (made_message b number) (made_message c number) 0 many (made_message_alike b c t some number))
+      (from_alike (made_message b m number) (made_message c m number) 0 many (made_message_alike b c t m some number))
 
-pub made_alike : (b c : Binding) → AreTwins b c → (number many : ℕ) → make_text b number many ≡ make_text c number many
-made_alike b c t number many = ap (λ (ms : List (List ℕ)). made_line ms) (messages_alike b c t number many)
+pub made_alike : (b c : Binding) (m n : ℕ) → AreTwins b c → m ≡ n → (number many : ℕ)
+    → make_text b m number many ≡ make_text c n number many
+made_alike b c m n t same number many =
+    ap (λ (ms : List (List ℕ)). made_line ms) (messages_alike b c t m number many) ∙ ap (λ (k : ℕ). make_text c k number many) same

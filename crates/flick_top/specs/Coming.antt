@@ -50,19 +50,21 @@ ServesFile e (Some text) task =
 -- what an action comes to over an engine: to answer items by a verb, or by the replies of a second file, or to write a text
 abbrev pub Acts : Action → Coded → List (List ℕ) → Files → Task → Type 0
 Acts (actions.Answer verb) e words files task = task ≡ answering_task (text_before verb e) (jobs.Over verb e)
+Acts actions.Pipe e words files task = task ≡ answering_task [] (jobs.Pipe e)
+Acts actions.Unpipe e words files task = task ≡ answering_task [] (jobs.Unpipe e)
 Acts (actions.Serve replies) e words files task = ServesFile e (files (word_at words replies)) task
 Acts actions.Stubs e words files task = task ≡ writing_task (stubs_text e) [] (Some e)
 Acts (actions.Make number many) e words files task =
-    task ≡ writing_task (make_text e.binding number many) (all_sent e number many) (Some e)
+    task ≡ writing_task (make_text e.binding e.minor number many) (all_sent e number many) (Some e)
 
 -- the same over what was made, or is said instead
 abbrev pub ActsOver : Action → Reported → List (List ℕ) → Files → Task → Type 0
 ActsOver action (Ok e) words files task = Acts action e words files task
 ActsOver action (Err saying) words files task = task ≡ saying_task saying None
 
--- what the content of a file comes to by a front end and over a back end, where an engine has these codes
+-- what the content of a file comes to by a front end and with messages of a format, where an engine has these codes
 abbrev pub IsMadeOf : List Stub → Named → Option (List ℕ) → Reported → Type 0
-IsMadeOf codes n content reported = (read : Read) × FileSays n.front content read × BoundSays codes n.back read reported
+IsMadeOf codes n content reported = (read : Read) × FileSays n.front content read × BoundSays codes n.wire read reported
 
 -- to write the text of a unit that was read, or what is said instead
 abbrev pub showing_task : Read → Task

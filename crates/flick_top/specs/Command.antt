@@ -2,11 +2,11 @@
 use Rattle.std.specs.Prelude.{ℕ, List, [], ◌∷◌, if◌then◌else◌, Option, Some, None, unwrap_or, slice_get, codes}
 use Rattle.std.specs.Str.{bytes_eq}
 use Rattle.idl_lex.specs.declared.kinds.Front.{Front}
-use Rattle.wire_def.specs.declared.encoding.Back.{Back}
-use Rattle.flick_engine.specs.Backs.{back_of}
+use Rattle.flick_engine.specs.declared.wire.Wire.{Wire}
+use Rattle.flick_engine.specs.Backs.{wire_of}
 use Rattle.flick_lines.specs.declared.verb.Verb.TheVariants.{Marshal, Unmarshal, Reply, Unreply, Count}
 use Rattle.flick_top.specs.declared.command.Action.{Action}
-use Rattle.flick_top.specs.declared.command.Action.TheVariants.{Answer, Serve, Stubs, Make}
+use Rattle.flick_top.specs.declared.command.Action.TheVariants.{Answer, Pipe, Unpipe, Serve, Stubs, Make}
 use Rattle.flick_top.specs.declared.command.Command.{Command}
 use Rattle.flick_top.specs.declared.command.Command.TheVariants.{Help, Version, Show, Over}
 use Rattle.flick_top.specs.Fronts.{front_of}
@@ -27,6 +27,8 @@ last_action word =
     else if bytes_eq word (codes "reply") then Some (Answer Reply)
     else if bytes_eq word (codes "unreply") then Some (Answer Unreply)
     else if bytes_eq word (codes "count") then Some (Answer Count)
+    else if bytes_eq word (codes "pipe") then Some Pipe
+    else if bytes_eq word (codes "unpipe") then Some Unpipe
     else if bytes_eq word (codes "stubs") then Some Stubs
     else None
 
@@ -52,12 +54,12 @@ abbrev pub showing : List ℕ → Option Front → Option Command
 showing word None = None
 showing word (Some f) = if bytes_eq word (codes "show") then Some (Show f) else None
 
--- an action, a front end and a back end, each where its word names one, over the file of the fourth word
-abbrev pub over_file : Option Action → Option Front → Option Back → Option Command
-over_file None front back = None
-over_file (Some a) None back = None
+-- an action, a front end and a format of messages, each where its word names one, over the file of the fourth word
+abbrev pub over_file : Option Action → Option Front → Option Wire → Option Command
+over_file None front wire = None
+over_file (Some a) None wire = None
 over_file (Some a) (Some f) None = None
-over_file (Some a) (Some f) (Some b) = Some (Over a (record { front = f; back = b; file = 3 }))
+over_file (Some a) (Some f) (Some w) = Some (Over a (record { front = f; wire = w; file = 3 }))
 
 -- the command, where the words have the shape of one
 abbrev pub command_of : List (List ℕ) → Option Command
@@ -65,7 +67,7 @@ command_of [] = None
 command_of (word ∷ []) = option_of word
 command_of (a ∷ b ∷ []) = None
 command_of (word ∷ front ∷ file ∷ []) = showing word (front_of front)
-command_of (word ∷ front ∷ back ∷ file ∷ more) = over_file (action_of word more) (front_of front) (back_of back)
+command_of (word ∷ front ∷ back ∷ file ∷ more) = over_file (action_of word more) (front_of front) (wire_of back)
 
 -- the word at a place
 abbrev pub word_at : List (List ℕ) → ℕ → List ℕ
@@ -74,6 +76,8 @@ word_at words place = unwrap_or (slice_get words place) []
 -- an action that answers the items of the input
 abbrev pub IsOverItems : Action → Type 0
 IsOverItems (Answer verb) = Unit {0}
+IsOverItems Pipe = Unit {0}
+IsOverItems Unpipe = Unit {0}
 IsOverItems (Serve replies) = Unit {0}
 IsOverItems _ = ⊥
 

@@ -2,6 +2,8 @@
 use Rattle.std.specs.Prelude.{◌≡◌, ℕ, List, [], length, nat_le, MatchBool, Option, Some, None, Result, Ok, Err, IsOkAnd}
 use Rattle.kit_base.specs.Limits.{longest_file}
 use Rattle.wire_def.specs.declared.encoding.Back.{Back}
+use Rattle.flick_engine.specs.declared.wire.Wire.{Wire}
+use Rattle.flick_engine.specs.Backs.{back_in, minor_in}
 use Rattle.idl_lex.specs.declared.kinds.Front.{Front}
 use Rattle.aoi.specs.Plain.{PlainUnit, plain, IsSoundPlain}
 use Rattle.aoi.specs.Units.{Parts}
@@ -51,12 +53,16 @@ pub record IsOver (u : PlainUnit) (k : Back) (b : Binding) : Type 0 where
   pub back : b.back ≡ k
   pub nodes : faces b.nodes b.shapes ≡ all_made u k
 
--- a unit that has this reason against it; or else the engine that is given is over its binding, and these are its codes
-abbrev pub BindSays : List Stub → PlainUnit → Back → Option BindErr → Reported → Type 0
-BindSays codes u back (Some e) reported = reported ≡ Err (Bind e)
-BindSays codes u back None reported = IsOkAnd reported (λ e. IsOver u back e.binding × (e.stubs ≡ codes))
+-- an engine of a unit whose messages have a format
+abbrev pub IsOf : PlainUnit → Wire → Coded → Type 0
+IsOf u w e = IsOver u (back_in w) e.binding × (e.minor ≡ minor_in w)
 
--- what was read, over a back end
-abbrev pub BoundSays : List Stub → Back → Read → Reported → Type 0
-BoundSays codes back (Err saying) reported = reported ≡ Err saying
-BoundSays codes back (Ok u) reported = BindSays codes u back (bind_fault u back) reported
+-- a unit that has this reason against it; or else the engine that is given is of the unit, and these are its codes
+abbrev pub BindSays : List Stub → PlainUnit → Wire → Option BindErr → Reported → Type 0
+BindSays codes u w (Some e) reported = reported ≡ Err (Bind e)
+BindSays codes u w None reported = IsOkAnd reported (λ e. IsOf u w e × (e.stubs ≡ codes))
+
+-- what was read, with messages of a format
+abbrev pub BoundSays : List Stub → Wire → Read → Reported → Type 0
+BoundSays codes w (Err saying) reported = reported ≡ Err saying
+BoundSays codes w (Ok u) reported = BindSays codes u w (bind_fault u (back_in w)) reported

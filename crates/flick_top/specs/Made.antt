@@ -1,6 +1,7 @@
 -- The engine that is left after a command.
 use Rattle.std.specs.Prelude.{◌≡◌, ℕ, List, [], Option, Some, None, Ok, IsSomeAnd}
-use Rattle.wire_def.specs.declared.encoding.Back.{Back}
+use Rattle.flick_engine.specs.declared.wire.Wire.{Wire}
+use Rattle.flick_engine.specs.Backs.{back_in}
 use Rattle.aoi.specs.Plain.{PlainUnit}
 use Rattle.pres.specs.Faults.{bind_fault}
 use Rattle.stub_codes.specs.declared.stub.Stub.{Stub}
@@ -10,7 +11,7 @@ use Rattle.flick_top.specs.declared.command.Command.TheVariants.{Over}
 use Rattle.flick_top.specs.declared.prepared.Prepared.{Prepared}
 use Rattle.flick_top.specs.Coming.{Files}
 use Rattle.flick_top.specs.Command.{word_at}
-use Rattle.flick_top.specs.File.{Reported, FileSays, IsOver, codes_in}
+use Rattle.flick_top.specs.File.{Reported, FileSays, IsOf, codes_in}
 use Rattle.flick_top.specs.Task.{engine_of}
 
 -- the codes of the operations of an engine, if there is one
@@ -22,13 +23,13 @@ codes_of (Some e) = e.stubs
 abbrev pub HasCodes : Reported → Prepared → Type 0
 HasCodes reported p = codes_of (engine_of p) ≡ codes_in reported
 
--- an engine of a unit over a back end, each of whose codes is that of its operation
-abbrev pub IsEngineOver : PlainUnit → Back → Coded → Type 0
-IsEngineOver u k e = IsOver u k e.binding × IsCoded e
+-- an engine of a unit whose messages have a format, each of whose codes is that of its operation
+abbrev pub IsEngineOver : PlainUnit → Wire → Coded → Type 0
+IsEngineOver u w e = IsOf u w e × IsCoded e
 
 -- where a command over a back end has a file that is bound, this is an engine of the file's unit
 abbrev pub LeavesEngine : Option Coded → Option Command → List (List ℕ) → Files → Type 0
 LeavesEngine made (Some (Over action n)) words files =
-    (u : PlainUnit) → FileSays n.front (files (word_at words n.file)) (Ok u) → bind_fault u n.back ≡ None
-    → IsSomeAnd made (IsEngineOver u n.back)
+    (u : PlainUnit) → FileSays n.front (files (word_at words n.file)) (Ok u) → bind_fault u (back_in n.wire) ≡ None
+    → IsSomeAnd made (IsEngineOver u n.wire)
 LeavesEngine made _ words files = Unit {0}

@@ -7,11 +7,10 @@ ghost use Rattle.flick_engine.specs.Backs as backs;
 
 use crate::fronts::front_of;
 use crate::numbers::number_in;
-use flick_engine::back_of;
+use flick_engine::{Wire, wire_of};
 use flick_lines::Verb;
 use idl_lex::Front;
 use kit_base::{Octets, Words};
-use wire_def::Back;
 
 /// The place of the word of a file of replies, from 0.
 const REPLIES: usize = 4;
@@ -39,19 +38,23 @@ pub enum Action {
     Answer(Verb),
     /// To answer messages by the replies of a second file, the place of whose word is given: `serve`
     Serve(usize),
+    /// To write the messages of the lines of the input, one after the other: `pipe`
+    Pipe,
+    /// To answer the messages of a raw stream by their records: `unpipe`
+    Unpipe,
     /// To write the stub code of each operation: `stubs`
     Stubs,
     /// To make requests from a number on, so many, and to write what is counted of their messages: `make`
     Make(u64, u32),
 }
 
-/// The file of a command, and its back end.
+/// The file of a command, and the format of its messages.
 #[derive(Clone, Copy, Debug, PartialEq, Eq)]
 pub struct Named {
     /// The language of the file.
     pub front: Front,
     /// Which messages are made.
-    pub back: Back,
+    pub wire: Wire,
     /// The place of the file's word, from 0.
     pub file: usize,
 }
@@ -85,18 +88,18 @@ fn option_of(word: &[u8]) -> Option<Command>
     None
 }
 
-/// The command of an action, a front end and a back end, before a file.
+/// The command of an action, a front end and a format of messages, before a file.
 fn over_file(action: Option<Action>, front: &[u8], back: &[u8]) -> Option<Command>
-    ensures value { result ≡ over_file action (fronts.front_of front.now) (backs.back_of back.now) }
+    ensures value { result ≡ over_file action (fronts.front_of front.now) (backs.wire_of back.now) }
 {
     let action = action?;
     let front = front_of(front)?;
-    let back = back_of(back)?;
+    let wire = wire_of(back)?;
     Some(Command::Over(
         action,
         Named {
             front,
-            back,
+            wire,
             file: 3,
         },
     ))
@@ -170,6 +173,12 @@ fn last_action(word: &[u8]) -> Option<Action>
     }
     if word == b"count".as_slice() {
         return Some(Action::Answer(Verb::Count));
+    }
+    if word == b"pipe".as_slice() {
+        return Some(Action::Pipe);
+    }
+    if word == b"unpipe".as_slice() {
+        return Some(Action::Unpipe);
     }
     if word == b"stubs".as_slice() {
         return Some(Action::Stubs);

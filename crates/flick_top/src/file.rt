@@ -3,6 +3,7 @@
 ghost use Rattle.std.specs.Prelude.{◌≡◌, ◌≢◌, ◌≤◌, Some, IfOk, IfErr};
 ghost use Rattle.kit_base.specs.Causes.{Rose};
 ghost use Rattle.aoi.specs.Plain.{plain, IsSoundPlain};
+ghost use Rattle.flick_engine.specs.Backs.{back_in};
 ghost use Rattle.pres.specs.Faults.{bind_fault};
 ghost use Rattle.flick_top.specs.Coming.{Files, IsMadeOf};
 ghost use Rattle.flick_top.specs.File.{FileSays, BindSays, BoundSays, IsSoundly, codes_in, plainly};
@@ -11,13 +12,12 @@ use crate::command::Named;
 use crate::fronts::unit_of;
 use crate::saying::Saying;
 use aoi::Unit;
-use flick_engine::Engine;
+use flick_engine::{Engine, Wire};
 use idl_lex::Front;
 use kit_base::limits::LONGEST_FILE;
 use kit_base::{NoMemory, Shelf, ShelfErr};
 use pres::{BindErr, bind};
 use std::alloc::Global;
-use wire_def::Back;
 
 /// Why there is no task.
 #[derive(Clone, Copy, Debug, PartialEq, Eq)]
@@ -54,7 +54,7 @@ pub fn engine_at<F: Shelf>(
     ensures stands { result ≢ Err TaskErr.Shelf → F.faults shelf.old ≡ F.faults shelf.new }
 {
     let read = unit_at(alloc, named.front, path, shelf)?;
-    Ok(made_of(alloc, named.back, read)?)
+    Ok(made_of(alloc, named.wire, read)?)
 }
 
 /// The unit of the file at a path, or what is said instead. One octet more than the greatest
@@ -101,29 +101,29 @@ fn read_content(
     unit_of(alloc, front, content)
 }
 
-/// What is made over a back end of what was read, or what is said instead.
+/// What is made of what was read, with messages of a format, or what is said instead.
 fn made_of(
     alloc: Global,
-    back: Back,
+    wire: Wire,
     read: Result<Unit, Saying>,
 ) -> Result<Result<Engine, Saying>, NoMemory>
     requires sound { IsSoundly read }
-    ensures { IfOk result (λ reported. BoundSays (codes_in reported) back (plainly read) reported) }
+    ensures { IfOk result (λ reported. BoundSays (codes_in reported) wire (plainly read) reported) }
 {
     match read {
-        Ok(unit) => bound_to(alloc, back, unit),
+        Ok(unit) => bound_to(alloc, wire, unit),
         Err(saying) => Ok(Err(saying)),
     }
 }
 
-/// The engine of a unit over a back end, or the first reason against it.
-fn bound_to(alloc: Global, back: Back, unit: Unit) -> Result<Result<Engine, Saying>, NoMemory>
+/// The engine of a unit with messages of a format, or the first reason against it.
+fn bound_to(alloc: Global, wire: Wire, unit: Unit) -> Result<Result<Engine, Saying>, NoMemory>
     requires sound { IsSoundPlain (plain unit) }
     ensures { IfOk result (λ reported.
-        BindSays (codes_in reported) (plain unit) back (bind_fault (plain unit) back) reported) }
+        BindSays (codes_in reported) (plain unit) wire (bind_fault (plain unit) (back_in wire)) reported) }
 {
-    match bind(alloc, unit, back) {
-        Ok(bound) => Ok(Ok(Engine::compile(alloc, bound)?)),
+    match bind(alloc, unit, wire.back()) {
+        Ok(bound) => Ok(Ok(Engine::compile_minor(alloc, bound, wire.minor())?)),
         Err(BindErr::NoMemory) => Err(NoMemory),
         Err(reason) => Ok(Err(Saying::Bind(reason))),
     }

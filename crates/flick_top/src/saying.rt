@@ -23,6 +23,11 @@ commands:\n\
 \x20                                message\n\
 \x20 unreply FRONT BACK FILE        answer each name of an operation, space and reply to it in\n\
 \x20                                hexadecimal digits by its reply record\n\
+\x20 pipe FRONT BACK FILE           write the message of each request record, one after the\n\
+\x20                                other, as raw octets; a line that marshal refuses adds\n\
+\x20                                none, and marshal says why\n\
+\x20 unpipe FRONT BACK FILE         answer each message of a raw stream by its request record,\n\
+\x20                                as soon as it is whole\n\
 \x20 count FRONT BACK FILE          write the stub code that sends each operation's requests,\n\
 \x20                                then answer as marshal, with what the code cost after the\n\
 \x20                                digits: checks, moves, stores and rows\n\
@@ -37,8 +42,9 @@ commands:\n\
 \n\
 FRONT is the language of FILE: onc, for the ONC RPC language, corba, for CORBA IDL,\n\
 or mig, for MIG definitions.\n\
-BACK is xdr, for ONC messages, cdr-be or cdr-le, for GIOP messages in big or little\n\
-order, or mach, for typed messages in the manner of Mach 3.\n\
+BACK is xdr, for ONC messages, cdr-be or cdr-le, for messages of GIOP 1.0 in big or\n\
+little order, cdr12-be or cdr12-le, for those of GIOP 1.2, or mach, for typed messages\n\
+in the manner of Mach 3.\n\
 A request record or reply record is a line of JSON.\n\
 NUMBER is at most 18,446,744,073,709,551,615 and N at most 1,000,000.\n\
 \n\

@@ -1,6 +1,6 @@
 -- The header of a message is a grammar, whatever is expected.
-use Rattle.std.proofs.Common.{◌≡◌, inl, inr, ℕ, suc, List, [], ◌++◌, Bool, true, false, cond, refl, sym, ap, ◌∙◌, add-zero, append-nil, arith}
-use Rattle.std.specs.Prelude.{Result, Ok, Err, ◌==◌, ◌-◌, slice_index}
+use Rattle.std.proofs.Common.{◌≡◌, ◌⊎◌, inl, inr, ℕ, suc, List, [], ◌++◌, Bool, true, false, cond, refl, sym, ap, ◌∙◌, add-zero, append-nil, arith}
+use Rattle.std.specs.Prelude.{Result, Ok, Err, ◌==◌, ◌&&◌, ◌-◌, slice_index}
 use Rattle.std.proofs.lemmas.Bool.{eqb-true, or_cases}
 use Rattle.wire_def.specs.declared.fault.HeadErr.{HeadErr}
 use Rattle.wire_def.specs.declared.fault.HeadErr.TheVariants.{Magic, Version, Type_, Size}
@@ -11,7 +11,7 @@ use Rattle.wire_def.proofs.HeadItems.{body_is}
 use Rattle.giop_head.specs.declared.header.Heading.{Heading}
 use Rattle.giop_head.specs.declared.header.Way.{Way}
 use Rattle.giop_head.specs.declared.header.Way.TheVariants.{Asks, Requests, Replies}
-use Rattle.giop_head.specs.Header.{has_magic, has_version, has_order, expected, size_in, judged, header_of, HeaderSpells, HeaderStops, given, read_header}
+use Rattle.giop_head.specs.Header.{has_minor, IsMinor, has_magic, has_version, has_order, expected, size_in, judged, header_of, HeaderSpells, HeaderStops, given, read_header}
 
 given_is : (d : Result Heading HeadErr) → IsGrammar (given d) (λ p o h. (o ≡ []) × (d ≡ Ok h)) (λ p o k at. (d ≡ Err k) × (at ≡ p))
 given_is (Ok j) = record {
@@ -39,7 +39,7 @@ header_is w n = mapped (λ (x : List ℕ × Heading). x.1) (HeaderSpells w n) (b
     rw whole (long, ok))
     (λ p o h (long, ok). ((o, h), refl, (o, [], sym (append-nil o), (refl, long), (refl, ok))))
 
--- ---- a header that is right has a type that is expected
+-- ---- a header that is right has a type that is expected, and the minor number of a version that is read
 
 passed : (b : Bool) (x : Result Heading HeadErr) (k : HeadErr) (h : Heading) → cond b x (Err k) ≡ Ok h → (b ≡ true) × (x ≡ Ok h)
 passed true x k h e = (refl, e)
@@ -73,3 +73,41 @@ replies_one m e = eqb-true m 1 e
 
 pub requests_zero : (m : ℕ) → expected Requests m ≡ true → m ≡ 0
 requests_zero m e = eqb-true m 0 e
+
+second : (a b : Bool) → a && b ≡ true → b ≡ true
+second true b h = h
+second false b h = absurd cc
+
+-- octets of a version that is read have such a minor number
+pub has_one : (o : List ℕ) → has_version o ≡ true → IsMinor (slice_index o 5)
+has_one o h = second (slice_index o 4 == 1) (has_minor (slice_index o 5)) h
+
+pub is_minor : (w : Way) (n : ℕ) (o : List ℕ) (h : Heading) → judged w n o ≡ Ok h → IsMinor h.minor
+unfolding judged
+is_minor w n o h e =
+    let magic = passed (has_magic o) _ Magic h e in
+    let version = passed (has_version o) _ Version h magic.1 in
+    let order = passed (has_order o) _ fault.Order h version.1 in
+    let kind = passed (expected w (slice_index o 7)) _ Type_ h order.1 in
+    let size = passed (size_in o == n - 12) _ Size h kind.1 in
+    let same : header_of o ≡ h = same_heading (header_of o) h size.1 in
+    rw (← same) (has_one o version.0)
+
+-- there are two
+pub minors : (m : ℕ) → IsMinor m → (m ≡ 0) ⊎ (m ≡ 2)
+minors m h = elim (or_cases (m == 0) (m == 2) h) [ inl none ↦ inl (eqb-true _ _ none) | inr two ↦ inr (eqb-true _ _ two) ]
+
+-- ---- a request is one in both ways
+
+pub asked_once : (n : ℕ) (o : List ℕ) (h : Heading) → h.message_type ≡ 0 → judged Asks n o ≡ Ok h → judged Requests n o ≡ Ok h
+unfolding judged
+asked_once n o h zero e =
+    let magic = passed (has_magic o) _ Magic h e in
+    let version = passed (has_version o) _ Version h magic.1 in
+    let order = passed (has_order o) _ fault.Order h version.1 in
+    let kind = passed (expected Asks (slice_index o 7)) _ Type_ h order.1 in
+    let size = passed (size_in o == n - 12) _ Size h kind.1 in
+    let same : header_of o ≡ h = same_heading (header_of o) h size.1 in
+    let type : slice_index o 7 ≡ 0 = ap (λ (x : Heading). x.message_type) same ∙ zero in
+    let wanted : expected Requests (slice_index o 7) ≡ true = ap (expected Requests) type in
+    rw (magic.0, version.0, order.0, wanted, size.0) size.1

@@ -1,7 +1,7 @@
 -- What the fields of heads are made of is a grammar each.
-use Rattle.std.proofs.Common.{◌≡◌, ℕ, zero, suc, ◌+◌, ◌-◌, List, [], ◌∷◌, ◌++◌, length, take, Bool, true, false, cond, refl, sym, ap, subst, ◌∙◌, add-zero, length-append, arith}
+use Rattle.std.proofs.Common.{◌≡◌, ℕ, zero, suc, ◌+◌, ◌-◌, ◌<◌, List, [], ◌∷◌, ◌++◌, length, take, Bool, true, false, cond, refl, sym, ap, subst, ◌∙◌, add-zero, length-append, arith}
 use Rattle.std.specs.Prelude.{◌==◌}
-use Rattle.std.specs.Int.{w32}
+use Rattle.std.specs.Int.{Width, w16, w32, byte_len}
 use Rattle.std.proofs.lemmas.Bool.{eq-eqb, eqb-true}
 use Rattle.std.proofs.lemmas.List.{take_at}
 use Rattle.mint.specs.declared.kind.Kind.TheVariants as kind
@@ -14,23 +14,16 @@ use Rattle.wire_def.specs.declared.encoding.Encoding.TheVariants.{CdrBig, CdrLit
 use Rattle.wire_def.specs.declared.head.Order.{Order}
 use Rattle.wire_def.specs.declared.head.Order.TheVariants.{Big, Little}
 use Rattle.wire_def.specs.Grammar.{Reading, got, stop, Parts, IsGrammar, TestedSpells}
-use Rattle.wire_def.specs.HeadItems.{BodySpells}
+use Rattle.wire_def.specs.HeadItems.{BodySpells, read_body}
 use Rattle.wire_def.specs.Scalars.{gap, WordSpells, WordStops, read_word}
-use Rattle.wire_def.proofs.Grammars.{mapped, both_are, tested_are}
+use Rattle.wire_def.proofs.Grammars.{mapped_got, mapped_stop, mapped, both_are, tested_are}
 use Rattle.wire_def.proofs.HeadItems.{body_is}
 use Rattle.wire_def.proofs.Words.{IsWide, wide, word_is}
 use Rattle.head_kit.specs.Words.{up_to}
-use Rattle.giop_head.specs.Items.{laid, LongSpells, LongStops, or_short, read_long, long_place, PassSpells, PassStops, read_pass, FlagSpells, FlagStops, read_flag, SequenceSpells, SequenceStops, read_sequence, is_ended, StringSpells, StringStops, read_string, EndSpells, EndStops, read_end}
+use Rattle.giop_head.specs.Items.{laid, LongSpells, LongStops, or_short, read_long, long_place, PassSpells, PassStops, read_pass, ShortSpells, ShortStops, read_short, FlagSpells, FlagStops, read_flag, SequenceSpells, SequenceStops, read_sequence, is_ended, StringSpells, StringStops, read_string, padding, PaddingSpells, PaddingStops, pass_padding, EndSpells, EndStops, read_end}
 use Rattle.giop_head.proofs.Ended.{ended_parts, parts_ended}
 
--- ---- unsigned longs
-
-wide_long : (r : Order) → IsWide (laid r) w32
-wide_long Big = wide CdrBig (number kind.U32)
-wide_long Little = wide CdrLittle (number kind.U32)
-
-words : (r : Order) → IsGrammar (read_word (laid r) 4 w32) (WordSpells (laid r) 4 w32) (WordStops (laid r) 4 w32)
-words r = word_is (laid r) 4 w32 (wide_long r)
+-- ---- unsigned longs and shorts
 
 short_got : {A : Type 0} (d : Reading FaultKind A) (x : A) (q : ℕ) (rest : List ℕ) → or_short d ≡ got x q rest → d ≡ got x q rest
 short_got (got y p o) x q rest e =
@@ -45,17 +38,39 @@ short_stop : {A : Type 0} (d : Reading FaultKind A) (k : HeadErr) (at : ℕ) →
 short_stop (got y p o) k at e = absurd cc
 short_stop (stop j at') k at e = let there : at' ≡ at = cc in (j, rw there refl, cc)
 
+-- a number of a width after its gap
+module _ (r : Order) (a : ℕ) (w : Width) (is_wide : IsWide (laid r) w) where
+  words : IsGrammar (read_word (laid r) a w) (WordSpells (laid r) a w) (WordStops (laid r) a w)
+  words = word_is (laid r) a w is_wide
+
+  number_is : IsGrammar (λ p o. or_short (read_word (laid r) a w p o)) (WordSpells (laid r) a w)
+      (λ p o k at. (length o < gap p a + byte_len w) × (k ≡ Short) × (at ≡ p + gap p a))
+  unfolding WordStops
+  number_is = record {
+    reads = λ p o rest x s. rw (words.reads p o rest x s) refl;
+    spelled = λ p o x q rest oct e. words.spelled p o x q rest oct (short_got _ x q rest e);
+    stops = λ p o k at f. rw (words.stops p o kinds.Short (p + gap p a) (f.0, refl, refl), f.1, f.2) refl;
+    faulty = λ p o k at oct e.
+        let d = short_stop _ k at e in
+        let f = words.faulty p o d.0 at oct d.1 in
+        (f.0, d.2, f.2);
+  }
+
+wide_long : (r : Order) → IsWide (laid r) w32
+wide_long Big = wide CdrBig (number kind.U32)
+wide_long Little = wide CdrLittle (number kind.U32)
+
+wide_short : (r : Order) → IsWide (laid r) w16
+wide_short Big = wide CdrBig (number kind.U16)
+wide_short Little = wide CdrLittle (number kind.U16)
+
 pub long_is : (r : Order) → IsGrammar (read_long r) (LongSpells r) LongStops
-unfolding read_long WordStops
-long_is r = record {
-  reads = λ p o rest x s. rw ((words r).reads p o rest x s) refl;
-  spelled = λ p o x q rest oct e. (words r).spelled p o x q rest oct (short_got _ x q rest e);
-  stops = λ p o k at f. rw ((words r).stops p o kinds.Short (p + gap p 4) (f.0, refl, refl), f.1, f.2) refl;
-  faulty = λ p o k at oct e.
-      let d = short_stop _ k at e in
-      let f = (words r).faulty p o d.0 at oct d.1 in
-      (f.0, d.2, f.2);
-}
+unfolding read_long
+long_is r = number_is r 4 w32 (wide_long r)
+
+pub short_is : (r : Order) → IsGrammar (read_short r) (ShortSpells r) ShortStops
+unfolding read_short
+short_is r = number_is r 2 w16 (wide_short r)
 
 pub pass_is : (r : Order) (m : ℕ) → IsGrammar (read_pass r m) (PassSpells r m) (PassStops r m)
 pass_is r m = tested_are (up_to m) Item long_place (long_is r)
@@ -142,6 +157,24 @@ string_is r =
       take_at s (0 ∷ []) (suc (length s) - 1) (omega arith),
       (a, b, is, counts, ((same, omega (arith, length-append s (0 ∷ []))), parts_ended s letters)),
     ))
+
+-- ---- what leads up to a body
+
+abbrev nothing_of : List ℕ → Unit {0}
+nothing_of s = tt
+
+pub padding_is : (n : ℕ) → IsGrammar (pass_padding n) (PaddingSpells n) (PaddingStops n)
+unfolding pass_padding
+padding_is n = record {
+  reads = λ p o rest x s. rw ((body_is (padding n p)).reads p o rest o (refl, s)) refl;
+  spelled = λ p o x q rest oct e.
+      let m = mapped_got nothing_of (read_body (padding n p) p o) x q rest e in
+      let a = (body_is (padding n p)).spelled p o m.0 q rest oct m.1 in
+      (a.0, a.1, a.2, ap length a.3.0 ∙ a.3.1);
+  stops = λ p o k at f. rw ((body_is (padding n p)).stops p o k at f) refl;
+  faulty = λ p o k at oct e.
+      (body_is (padding n p)).faulty p o k at oct (mapped_stop nothing_of (read_body (padding n p) p o) k at e);
+}
 
 -- ---- the end
 

@@ -4,15 +4,17 @@
 pub mod Ended
 -- What the fields of heads are made of is a grammar each
 pub mod Leaves
--- * Unsigned longs and booleans as they are read
+-- * Unsigned longs, unsigned shorts and booleans as they are read
 pub mod Steps
 -- * Service contexts and principals are passed over, one by one
 pub mod Passed
+-- What differs between versions is a grammar in each
+pub mod ByVersion
 -- The header of a message is a grammar, whatever is expected
 pub mod Headers
 -- The heads of Request and LocateRequest messages are a grammar
 pub mod Calls
--- The heads of Reply messages are a grammar
+-- * The heads of Reply messages are a grammar
 pub mod Replies
 -- * The laws, over each way
 pub mod Lawful
@@ -22,3 +24,5 @@ pub mod Putting
 pub mod Sending
 -- * Heads that are sent are read as what they are sent for
 pub mod Sent
+-- What is read in two ways: the minor number of what is read, and requests among all that asks
+pub mod Ways

@@ -1,5 +1,5 @@
 -- The first 12 octets of a message (OMG CORBA, chapter GIOP, section on the message header).
-use Rattle.std.specs.Prelude.{◌≡◌, ℕ, zero, suc, ◌-◌, List, length, take, drop, Bool, ◌&&◌, ◌||◌, nat_le, ◌==◌, if◌then◌else◌, Result, Ok, Err, slice_index}
+use Rattle.std.specs.Prelude.{◌≡◌, ℕ, zero, suc, ◌-◌, List, length, take, drop, Bool, ◌&&◌, ◌||◌, nat_le, ◌==◌, IsTrue, if◌then◌else◌, Result, Ok, Err, slice_index}
 use Rattle.std.specs.Int.{w32}
 use Rattle.wire_def.specs.declared.fault.HeadErr.{HeadErr}
 use Rattle.wire_def.specs.declared.fault.HeadErr.TheVariants.{Magic, Version, Type_, Size}
@@ -18,9 +18,17 @@ use Rattle.giop_head.specs.Items.{laid}
 abbrev pub has_magic : List ℕ → Bool
 has_magic o = slice_index o 0 == 71 && slice_index o 1 == 73 && slice_index o 2 == 79 && slice_index o 3 == 80
 
--- version 1.0
+-- the minor numbers of the versions that are read and sent, 1.0 and 1.2
+abbrev pub has_minor : ℕ → Bool
+has_minor m = m == 0 || m == 2
+
+-- such a minor number
+abbrev pub IsMinor : ℕ → Type 0
+IsMinor m = IsTrue (has_minor m)
+
+-- version 1.0 or 1.2
 abbrev pub has_version : List ℕ → Bool
-has_version o = slice_index o 4 == 1 && slice_index o 5 == 0
+has_version o = slice_index o 4 == 1 && has_minor (slice_index o 5)
 
 -- an order: 0 is big, 1 little
 abbrev pub has_order : List ℕ → Bool
@@ -41,9 +49,9 @@ expected Replies n = n == 1
 abbrev pub size_in : List ℕ → ℕ
 size_in o = octets_number (laid (order_of (slice_index o 6))) w32 (take 4 (drop 8 o))
 
--- what a header says of order and type
+-- what a header says of order, type and version
 abbrev pub header_of : List ℕ → Heading
-header_of o = record { order = order_of (slice_index o 6); message_type = slice_index o 7 }
+header_of o = record { order = order_of (slice_index o 6); message_type = slice_index o 7; minor = slice_index o 5 }
 
 -- what the header of a message of so many octets says, or the first of its fields that is wrong
 unfoldable pub judged : Way → ℕ → List ℕ → Result Heading HeadErr

@@ -1,6 +1,6 @@
 -- What the fields of heads are made of (OMG CORBA, chapter GIOP, section on CDR: primitive types, strings, sequences).
-use Rattle.std.specs.Prelude.{◌≡◌, ℕ, zero, suc, ◌+◌, ◌-◌, ◌<◌, List, [], ◌∷◌, ◌++◌, length, take, Bool, true, false, ◌==◌, if◌then◌else◌}
-use Rattle.std.specs.Int.{w32}
+use Rattle.std.specs.Prelude.{◌≡◌, ℕ, zero, suc, ◌+◌, ◌-◌, ◌<◌, min, List, [], ◌∷◌, ◌++◌, length, take, Bool, true, false, ◌==◌, if◌then◌else◌}
+use Rattle.std.specs.Int.{w16, w32}
 use Rattle.std.specs.List.{AllByRecursion}
 use Rattle.wire_def.specs.declared.encoding.Encoding.{Encoding}
 use Rattle.wire_def.specs.declared.encoding.Encoding.TheVariants.{CdrBig, CdrLittle}
@@ -53,6 +53,24 @@ PassStops r m = TestedStops (LongSpells r) LongStops (up_to m) Item long_place
 -- a number up to the greatest, read from a position
 abbrev pub read_pass : Order → ℕ → Reader HeadErr ℕ
 read_pass r m = tested (read_long r) (up_to m) Item long_place
+
+-- ---- unsigned shorts: two octets, the first at a multiple of 2, after an octet of any content
+
+-- an unsigned short and its number
+abbrev pub ShortSpells : Order → Spelling ℕ
+ShortSpells r = WordSpells (laid r) 2 w16
+
+-- octets that end before the number does
+abbrev pub ShortStops : Stopping HeadErr
+ShortStops p o k at = (length o < gap p 2 + 2) × (k ≡ Short) × (at ≡ p + gap p 2)
+
+-- an unsigned short, read from a position
+unfoldable pub read_short : Order → Reader HeadErr ℕ
+read_short r p o = or_short (read_word (laid r) 2 w16 p o)
+
+-- where an unsigned short is
+abbrev pub short_place : ℕ → ℕ
+short_place p = p + gap p 2
 
 -- ---- booleans: an octet 0 or 1
 
@@ -116,6 +134,24 @@ StringStops r = StopsInOrder (LongSpells r) LongStops (λ n. TestedStops (BodySp
 -- a string without the 0 at its end, read from a position
 unfoldable pub read_string : Order → Reader HeadErr (List ℕ)
 read_string r p o = map_got (λ x. take (x.0 - 1) x.1) (both (read_long r) (λ n. tested (read_body n) is_ended Text (λ p. p)) p o)
+
+-- ---- what leads up to a body, in a message of so many octets
+
+-- how many octets take a position to a multiple of 8, or to the message's end where that comes first
+abbrev pub padding : ℕ → ℕ → ℕ
+padding n p = min (gap p 8) (n - p)
+
+-- so many octets, whatever they are
+abbrev pub PaddingSpells : ℕ → Spelling (Unit {0})
+PaddingSpells n p o x = length o ≡ padding n p
+
+-- fewer octets; where they are those of the message, none are lacking
+abbrev pub PaddingStops : ℕ → Stopping HeadErr
+PaddingStops n p o k at = BodyStops (padding n p) p o k at
+
+-- what leads up to a body, passed over from a position
+unfoldable pub pass_padding : ℕ → Reader HeadErr (Unit {0})
+pass_padding n p o = map_got (λ s. tt) (read_body (padding n p) p o)
 
 -- ---- the end of a message of so many octets
 

@@ -1,5 +1,6 @@
 pub mod Items
 pub mod Contexts
+pub mod Versions
 pub mod Header
 pub mod Call
 pub mod Reply

@@ -10,9 +10,9 @@ use Rattle.head_kit.specs.Heads.{Begins}
 use Rattle.giop_head.specs.declared.header.Way.TheVariants.{Asks, Requests, Replies}
 use Rattle.giop_head.specs.declared.call.GiopCall.{GiopCall}
 use Rattle.giop_head.specs.declared.call.GiopCall.TheVariants as calls
-use Rattle.giop_head.specs.declared.call.Asked.{Asked}
+use Rattle.giop_head.specs.Header.{IsMinor}
 use Rattle.giop_head.specs.declared.call.GiopRequest.{GiopRequest}
-use Rattle.giop_head.specs.Call.{Request, Search, Call, request, search_for, Ordered}
+use Rattle.giop_head.specs.Call.{Named, Search, Call, request, search_for, addressing, Ordered}
 use Rattle.giop_head.specs.Reply.{Fate, answer, user, system, Reply}
 use Rattle.giop_head.specs.Heads.{format}
 
@@ -22,19 +22,28 @@ shared_head id wants order = record { id = id; remote = 0; local = 0; wants = wa
 
 -- ---- calls
 
--- what is reported of a message that asks, with the octets of key and name
+-- what is reported of a message that asks, with the octets of key and name: each has the minor number last, but what a target
+-- of another kind than a key reports
 pub data ReportedCall : Type 0 where
-  requested : Head → List ℕ → List ℕ → ℕ → ReportedCall
-  sought : ℕ → List ℕ → ReportedCall
+  requested : Head → List ℕ → List ℕ → ℕ → ℕ → ReportedCall
+  sought : ℕ → List ℕ → ℕ → ReportedCall
+  addressed : Head → ReportedCall
 
 -- what is reported, with the octets in place of what is borrowed
 abbrev pub call_seen : GiopCall → ReportedCall
-call_seen (calls.Request head key name used) = requested head key.now name.now used
-call_seen (calls.Locate id key) = sought id key.now
+call_seen (calls.Request head key name used minor) = requested head key.now name.now used minor
+call_seen (calls.Locate id key minor) = sought id key.now minor
+call_seen (calls.Addressing head) = addressed head
 
--- the fields of a request
-abbrev pub asked_seen : Asked → Request
-asked_seen a = record { id = a.id; wants = a.wants; key = a.key.now; name = a.name.now }
+-- a call of a version that is read
+abbrev pub HasMinor : GiopCall → Type 0
+HasMinor (calls.Request head key name used minor) = IsMinor minor
+HasMinor (calls.Locate id key minor) = IsMinor minor
+HasMinor (calls.Addressing head) = Unit {0}
+
+-- the octets of key and name
+abbrev pub named_seen : Bor (List ℕ) × Bor (List ℕ) → Named
+named_seen x = (x.0.now, x.1.now)
 
 -- the fields of a search
 abbrev pub search_seen : ℕ × Bor (List ℕ) → Search
@@ -42,8 +51,9 @@ search_seen x = record { id = x.0; key = x.1.now }
 
 -- a request, by a head of so many octets, or a search
 abbrev pub call_reported : Call → ℕ → ReportedCall
-call_reported (request r q) used = requested (shared_head q.id q.wants r) q.key q.name used
-call_reported (search_for r s) used = sought s.id s.key
+call_reported (request r m q) used = requested (shared_head q.id q.wants r) q.key q.name used m
+call_reported (search_for r m s) used = sought s.id s.key m
+call_reported (addressing r m s) used = addressed (shared_head s.0 s.1 r)
 
 -- a message begins with the head of a call, of which this is reported
 abbrev pub BeginsCall : List ℕ → ReportedCall → Type 0
@@ -57,10 +67,11 @@ pub record ReportedRequest : Type 0 where
   pub key : List ℕ
   pub name : List ℕ
   pub used : ℕ
+  pub minor : ℕ
 
 -- the same of a request
 abbrev pub request_seen : GiopRequest → ReportedRequest
-request_seen r = record { head = r.head; key = r.key.now; name = r.name.now; used = r.used }
+request_seen r = record { head = r.head; key = r.key.now; name = r.name.now; used = r.used; minor = r.minor }
 
 -- a request, by a head of so many octets
 abbrev pub request_reported : Ordered → ℕ → ReportedRequest
@@ -69,6 +80,7 @@ request_reported x used = record {
   key = x.request.key;
   name = x.request.name;
   used = used;
+  minor = x.minor;
 }
 
 -- a message begins with the head of a request, of which this is reported

@@ -1,8 +1,8 @@
 //! The header of a message (OMG CORBA, chapter GIOP, section on the message header).
 
-ghost use Rattle.std.specs.Prelude.{◌≡◌, length};
+ghost use Rattle.std.specs.Prelude.{◌≡◌, length, IfOk};
 ghost use Rattle.giop_head.specs.Header as heads;
-ghost use Rattle.giop_head.specs.Header.{judged, read_header};
+ghost use Rattle.giop_head.specs.Header.{IsMinor, judged, read_header};
 ghost use Rattle.head_kit.specs.Readers.{Gives, same};
 
 use head_kit::{Cursor, body};
@@ -35,6 +35,8 @@ pub struct Heading {
     pub order: Order,
     /// The number of the message's type.
     pub message_type: u8,
+    /// The minor number of the version: 0 or 2.
+    pub minor: u8,
 }
 
 /// Whether a header begins with the letters GIOP.
@@ -45,12 +47,19 @@ fn has_magic(octets: &[u8]) -> bool
     octets[0] == b'G' && octets[1] == b'I' && octets[2] == b'O' && octets[3] == b'P'
 }
 
-/// Whether its version is 1.0.
+/// Whether this is the minor number of a version that is read, 1.0 or 1.2.
+fn has_minor(minor: u8) -> bool
+    ensures { result ≡ heads.has_minor minor }
+{
+    minor == 0 || minor == 2
+}
+
+/// Whether its version is one that is read.
 fn has_version(octets: &[u8]) -> bool
     requires { length octets.now ≡ 12 }
     ensures { result ≡ heads.has_version octets.now }
 {
-    octets[4] == 1 && octets[5] == 0
+    octets[4] == 1 && has_minor(octets[5])
 }
 
 /// Whether a message type is one that is read in this way.
@@ -91,7 +100,8 @@ fn size_in(octets: &[u8]) -> u32
 #[tactic(auto, unfolding(crate::specs::Header::judged))]
 fn judged(way: Way, total: usize, octets: &[u8]) -> Result<Heading, HeadErr>
     requires { length octets.now ≡ 12 }
-    ensures { result ≡ judged way total octets.now }
+    ensures minor { IfOk result (λ h. IsMinor h.minor) }
+    ensures value { result ≡ judged way total octets.now }
 {
     if !has_magic(octets) {
         return Err(HeadErr::Magic);
@@ -111,6 +121,7 @@ fn judged(way: Way, total: usize, octets: &[u8]) -> Result<Heading, HeadErr>
     Ok(Heading {
         order: order_of(octets[6]),
         message_type: octets[7],
+        minor: octets[5],
     })
 }
 
@@ -121,7 +132,8 @@ pub(crate) fn header(
     total: usize,
     at: Cursor<'_>,
 ) -> Result<(Heading, Cursor<'_>), HeadErr>
-    ensures { Gives same result (read_header way total at.entry.place at.entry.rest.now) }
+    ensures minor { IfOk result (λ x. IsMinor x.0.minor) }
+    ensures read { Gives same result (read_header way total at.entry.place at.entry.rest.now) }
 {
     let (octets, next) = body(12, at)?;
     let header = judged(way, total, octets)?;

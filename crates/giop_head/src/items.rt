@@ -2,8 +2,8 @@
 
 ghost use Rattle.std.specs.Prelude.{◌≡◌, ◌==◌, ◌≤◌, IfOk};
 ghost use Rattle.std.specs.List.{position};
-ghost use Rattle.giop_head.specs.Items.{is_ended, read_flag, read_long, read_pass, read_sequence, read_string};
-ghost use Rattle.head_kit.specs.Readers.{borrowed, same, Gives};
+ghost use Rattle.giop_head.specs.Items.{is_ended, pass_padding, read_flag, read_long, read_pass, read_sequence, read_short, read_string};
+ghost use Rattle.head_kit.specs.Readers.{borrowed, same, Gives, Passing};
 
 use head_kit::{Cursor, body};
 use wire_def::{HeadErr, Order};
@@ -25,6 +25,26 @@ pub(crate) fn long(order: Order, at: Cursor<'_>) -> Result<(u32, Cursor<'_>), He
         Order::Little => u32::from_le_bytes(octets),
     };
     let place = at.place + (gap + 4);
+    Ok((n, Cursor { place, rest }))
+}
+
+/// An unsigned short, after the octet up to a multiple of 2.
+#[tactic(auto, using(crate::proofs::Steps::shorts))]
+pub(crate) fn short(order: Order, at: Cursor<'_>) -> Result<(u16, Cursor<'_>), HeadErr>
+    ensures { Gives same result (read_short order at.entry.place at.entry.rest.now) }
+{
+    let gap = (2 - at.place % 2) % 2;
+    if at.rest.len() < gap + 2 {
+        return Err(HeadErr::Short);
+    }
+    let (_, number) = at.rest.split_at(gap);
+    let (octets, rest) = number.split_at(2);
+    let octets = [octets[0], octets[1]];
+    let n = match order {
+        Order::Big => u16::from_be_bytes(octets),
+        Order::Little => u16::from_le_bytes(octets),
+    };
+    let place = at.place + (gap + 2);
     Ok((n, Cursor { place, rest }))
 }
 
@@ -102,4 +122,16 @@ pub(crate) fn string(order: Order, at: Cursor<'_>) -> Result<(&[u8], Cursor<'_>)
     } else {
         Err(HeadErr::Text)
     }
+}
+
+/// What leads up to a body, in a message of so many octets: octets up to a multiple of 8, or up to the
+/// message's end.
+#[tactic(auto, unfolding(crate::specs::Items::pass_padding))]
+pub(crate) fn padding(total: usize, at: Cursor<'_>) -> Result<Cursor<'_>, HeadErr>
+    ensures { Passing result (pass_padding total at.entry.place at.entry.rest.now) }
+{
+    let gap = (8 - at.place % 8) % 8;
+    let many = gap.min(total.saturating_sub(at.place));
+    let (_, at) = body(many, at)?;
+    Ok(at)
 }

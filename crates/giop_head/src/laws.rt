@@ -1,6 +1,6 @@
 //! The laws of the heads, each the contract of a function that does nothing.
 
-ghost use Rattle.giop_head.specs.Laws.{HeadsAreDecided, HeadsAreRead, OwnHaveOctets, RepliesAreRead, RequestsAreRead};
+ghost use Rattle.giop_head.specs.Laws.{HeadsAreDecided, HeadsAreRead, OwnHaveOctets, PaddingIsThere, RepliesAreRead, RequestsAreRead};
 
 /// A message begins with a head, or there is a first item that is cut off or wrong: one of the
 /// two, and the head, its length and the fault are determined.
@@ -11,6 +11,11 @@ pub fn begins_or_stops()
 /// What is read from left to right is spelled, and where reading stops there is the first fault.
 pub fn heads_are_read()
     ensures { HeadsAreRead }
+{}
+
+/// A head does not stop in the octets that lead up to a body, since the message has them.
+pub fn padding_is_there()
+    ensures { PaddingIsThere }
 {}
 
 /// The head that is sent of a request is read as that request.

@@ -1,4 +1,4 @@
-//! Heads of GIOP messages, version 1.0 (OMG CORBA, chapter GIOP), in both orders of octets.
+//! Heads of GIOP messages, versions 1.0 and 1.2 (OMG CORBA, chapter GIOP), in both orders of octets.
 //!
 //! Which octets are the head of a request, of a search or of a reply, and where octets that are
 //! none first stop: both are definitions of this crate.
@@ -12,11 +12,13 @@ mod laws;
 mod refusals;
 mod reply;
 mod shared;
+mod versions;
 
 pub use call::{GiopCall, GiopRequest, read_call, read_request};
 pub use header::{Heading, Way};
 pub use laws::{
-    begins_or_stops, heads_are_read, own_refusals_have_octets, replies_are_read, requests_are_read,
+    begins_or_stops, heads_are_read, own_refusals_have_octets, padding_is_there, replies_are_read,
+    requests_are_read,
 };
-pub use refusals::{put_refusal, put_size};
+pub use refusals::{put_addressing, put_refusal, put_size};
 pub use reply::read_reply;

@@ -37,4 +37,6 @@ pub struct Called {
     pub encoding: Encoding,
     /// How many octets the head takes, from the beginning of the message.
     pub used: usize,
+    /// The minor number of the message's version, where its format has one, or else 0.
+    pub minor: u8,
 }

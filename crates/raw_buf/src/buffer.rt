@@ -9,7 +9,7 @@ ghost use Rattle.wire_def.specs.Orders.{IsWidth, in_order};
 
 use crate::Tally;
 use kit_base::NoMemory;
-use kit_swap::swap_numbers;
+use raw_mem::RawMem;
 use std::alloc::Global;
 use std::marker::Model;
 use wire_def::Order;
@@ -21,7 +21,7 @@ use wire_def::Order;
 /// when the buffer is cleared.
 #[derive(Drop)]
 pub struct SendBuf {
-    memory: Vec<u8>,
+    memory: RawMem,
     len: usize,
     ahead: usize,
     tally: Tally,
@@ -29,14 +29,14 @@ pub struct SendBuf {
 }
 
 impl Model for SendBuf {
-    ghost use Rattle.std.specs.Prelude.{◌≤◌, ◌+◌, take, drop, length};
+    ghost use Rattle.std.specs.Prelude.{◌≤◌, ◌<◌, ◌^◌, ◌+◌, take, drop, length};
     ghost use Rattle.raw_buf.specs.Buf.{Buf};
 
     ghost Value = { Buf };
 
-    ghost view = { λ b. record { done = take b.len b.memory.items; front = take b.ahead (drop b.len b.memory.items); tally = b.tally; spent = b.spent } };
+    ghost view = { λ b. record { done = take b.len b.memory; front = take b.ahead (drop b.len b.memory); tally = b.tally; spent = b.spent } };
 
-    ghost invariant = { λ b. b.len + b.ahead ≤ length b.memory.items };
+    ghost invariant = { λ b. (b.len + b.ahead ≤ length b.memory) × (length b.memory < 2 ^ 63) };
 }
 
 const NOTHING: Tally = Tally {
@@ -53,7 +53,7 @@ impl SendBuf {
             (λ b. b ≡ record { done = []; front = []; tally = none; spent = none }) }
     {
         Ok(SendBuf {
-            memory: Vec::new(alloc),
+            memory: RawMem::new(alloc),
             len: 0,
             ahead: 0,
             tally: NOTHING,
@@ -71,7 +71,7 @@ impl SendBuf {
                 return Err(NoMemory);
             };
             if wanted > self.memory.len() {
-                self.memory.resize(wanted, 0)?;
+                self.memory.grow(wanted)?;
             }
             self.ahead = n;
         }
@@ -159,7 +159,7 @@ impl SendBuf {
     pub fn octets(&self) -> &[u8]
         ensures { result.now ≡ self.now.done }
     {
-        &self.memory.as_slice()[..self.len]
+        self.memory.octets(0, self.len)
     }
 
     /// How many octets are ensured after those that are done.
@@ -298,42 +298,38 @@ impl SendBuf {
 }
 
 // Writes the numbers of an image at a place, the octets of each reversed.
-fn swap_at(memory: &mut Vec<u8>, at: usize, width: usize, image: &[u8])
+fn swap_at(memory: &mut RawMem, at: usize, width: usize, image: &[u8])
     requires width { IsSwapWidth width }
     requires whole { length image.now % width ≡ 0 }
-    requires within { at + length image.now ≤ length memory.old.items }
-    ensures { memory.new.items ≡ written memory.old.items at (swapped width image.now) }
+    requires within { at + length image.now ≤ length memory.old }
+    ensures { memory.new ≡ written memory.old at (swapped width image.now) }
 {
-    swap_numbers(
-        width,
-        image,
-        &mut memory.as_mut_slice()[at..at + image.len()],
-    );
+    memory.copy_swapped(at, width, image);
 }
 
-fn write_at(memory: &mut Vec<u8>, at: usize, octets: &[u8])
-    requires { at + length octets.now ≤ length memory.old.items }
-    ensures { memory.new.items ≡ written memory.old.items at octets.now }
+fn write_at(memory: &mut RawMem, at: usize, octets: &[u8])
+    requires { at + length octets.now ≤ length memory.old }
+    ensures { memory.new ≡ written memory.old at octets.now }
 {
-    memory.as_mut_slice()[at..at + octets.len()].copy_from_slice(octets);
+    memory.copy(at, octets);
 }
 
 // Writes a number at a place: one store, since each arm knows the width.
-fn write_word(memory: &mut Vec<u8>, at: usize, width: usize, order: Order, v: u64)
+fn write_word(memory: &mut RawMem, at: usize, width: usize, order: Order, v: u64)
     requires width { IsWidth width }
-    requires within { at + width ≤ length memory.old.items }
+    requires within { at + width ≤ length memory.old }
     requires fits { v < 256 ^ width }
-    ensures value { memory.new.items ≡ written memory.old.items at (in_order order width v) }
+    ensures value { memory.new ≡ written memory.old at (in_order order width v) }
     ensures width { length (in_order order width v) ≡ width }
 {
     match (width, order) {
-        (1, Order::Big) => write_at(memory, at, &(v as u8).to_be_bytes()),
-        (1, Order::Little) => write_at(memory, at, &(v as u8).to_le_bytes()),
-        (2, Order::Big) => write_at(memory, at, &(v as u16).to_be_bytes()),
-        (2, Order::Little) => write_at(memory, at, &(v as u16).to_le_bytes()),
-        (4, Order::Big) => write_at(memory, at, &(v as u32).to_be_bytes()),
-        (4, Order::Little) => write_at(memory, at, &(v as u32).to_le_bytes()),
-        (_, Order::Big) => write_at(memory, at, &v.to_be_bytes()),
-        (_, Order::Little) => write_at(memory, at, &v.to_le_bytes()),
+        (1, Order::Big) => memory.store(at, (v as u8).to_be_bytes()),
+        (1, Order::Little) => memory.store(at, (v as u8).to_le_bytes()),
+        (2, Order::Big) => memory.store(at, (v as u16).to_be_bytes()),
+        (2, Order::Little) => memory.store(at, (v as u16).to_le_bytes()),
+        (4, Order::Big) => memory.store(at, (v as u32).to_be_bytes()),
+        (4, Order::Little) => memory.store(at, (v as u32).to_le_bytes()),
+        (_, Order::Big) => memory.store(at, v.to_be_bytes()),
+        (_, Order::Little) => memory.store(at, v.to_le_bytes()),
     }
 }

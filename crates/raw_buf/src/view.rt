@@ -12,6 +12,7 @@ use kit_base::NoMemory;
 use kit_swap::swap_numbers;
 use mint::kind::Kind;
 use mint::row::Row;
+use raw_mem::RawView;
 use std::alloc::Global;
 use std::marker::Model;
 use wire_def::Order;
@@ -19,21 +20,21 @@ use wire_def::Order;
 /// A message, and the place where reading is.
 #[derive(Drop)]
 pub struct RecvView<'a> {
-    octets: &'a [u8],
+    octets: RawView<'a>,
     pos: usize,
     near: usize,
     tests: u64,
 }
 
 impl<'a> Model for RecvView<'a> {
-    ghost use Rattle.std.specs.Prelude.{◌≤◌, ◌+◌, length};
+    ghost use Rattle.std.specs.Prelude.{◌≤◌, ◌<◌, ◌^◌, ◌+◌, length};
     ghost use Rattle.raw_buf.specs.View.{View};
 
     ghost Value = { View };
 
-    ghost view = { λ v. record { octets = v.octets.now; pos = v.pos; near = v.near; tests = v.tests } };
+    ghost view = { λ v. record { octets = v.octets; pos = v.pos; near = v.near; tests = v.tests } };
 
-    ghost invariant = { λ v. v.pos + v.near ≤ length v.octets.now };
+    ghost invariant = { λ v. (v.pos + v.near ≤ length v.octets) × (length v.octets < 2 ^ 63) };
 }
 
 impl<'a> RecvView<'a> {
@@ -42,7 +43,7 @@ impl<'a> RecvView<'a> {
         ensures { result ≡ record { octets = octets.now; pos = 0; near = 0; tests = 0 } }
     {
         RecvView {
-            octets,
+            octets: RawView::new(octets),
             pos: 0,
             near: 0,
             tests: 0,
@@ -69,7 +70,8 @@ impl<'a> RecvView<'a> {
         ensures value { result.now ≡ drop self.now.pos self.now.octets }
         ensures near { self.now.near ≤ length result.now }
     {
-        &self.octets[self.pos..]
+        let count = self.octets.len() - self.pos;
+        self.octets.octets(self.pos, count)
     }
 
     /// Whether n octets follow, which then are known to be there. It counts a test.
@@ -99,8 +101,7 @@ impl<'a> RecvView<'a> {
             ≡ loaded_of order (width_in width) (take width (drop off (drop self.now.pos self.now.octets))) }
         ensures fits { result < 256 ^ width }
     {
-        let rest = &self.octets[self.pos..];
-        word(&rest[off..off + width], order)
+        read_word(&self.octets, self.pos + off, width, order)
     }
 
     /// Passes n octets that are known to be there.
@@ -221,35 +222,21 @@ fn append_turned(row: &mut Row, image: &[u8], block: &mut [u8; BLOCK]) -> Result
     row.append_image(turned)
 }
 
-// The number that all these octets hold, in an order.
-fn word(octets: &[u8], order: Order) -> u64
-    requires { IsWidth (length octets.now) }
-    ensures value { result ≡ loaded_of order (width_in (length octets.now)) octets.now }
-    ensures fits { result < 256 ^ length octets.now }
+// The number that `width` octets hold at a place: one load, since each arm knows the width.
+fn read_word(octets: &RawView, at: usize, width: usize, order: Order) -> u64
+    requires width { IsWidth width }
+    requires within { at + width ≤ length octets.now }
+    ensures value { result ≡ loaded_of order (width_in width) (take width (drop at octets.now)) }
+    ensures fits { result < 256 ^ width }
 {
-    match (octets.len(), order) {
-        (1, _) => u64::from(octets[0]),
-        (2, Order::Big) => u64::from(u16::from_be_bytes([octets[0], octets[1]])),
-        (2, Order::Little) => u64::from(u16::from_le_bytes([octets[0], octets[1]])),
-        (4, Order::Big) => u64::from(u32::from_be_bytes(four(octets))),
-        (4, Order::Little) => u64::from(u32::from_le_bytes(four(octets))),
-        (_, Order::Big) => u64::from_be_bytes(eight(octets)),
-        (_, Order::Little) => u64::from_le_bytes(eight(octets)),
+    match (width, order) {
+        (1, Order::Big) => u64::from(u8::from_be_bytes(octets.load(at))),
+        (1, Order::Little) => u64::from(u8::from_le_bytes(octets.load(at))),
+        (2, Order::Big) => u64::from(u16::from_be_bytes(octets.load(at))),
+        (2, Order::Little) => u64::from(u16::from_le_bytes(octets.load(at))),
+        (4, Order::Big) => u64::from(u32::from_be_bytes(octets.load(at))),
+        (4, Order::Little) => u64::from(u32::from_le_bytes(octets.load(at))),
+        (_, Order::Big) => u64::from_be_bytes(octets.load(at)),
+        (_, Order::Little) => u64::from_le_bytes(octets.load(at)),
     }
-}
-
-fn four(octets: &[u8]) -> [u8; 4]
-    requires { length octets.now ≡ 4 }
-    ensures { result ≡ octets.now }
-{
-    [octets[0], octets[1], octets[2], octets[3]]
-}
-
-fn eight(octets: &[u8]) -> [u8; 8]
-    requires { length octets.now ≡ 8 }
-    ensures { result ≡ octets.now }
-{
-    [
-        octets[0], octets[1], octets[2], octets[3], octets[4], octets[5], octets[6], octets[7],
-    ]
 }

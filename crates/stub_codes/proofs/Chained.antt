@@ -1,45 +1,55 @@
 -- The codes of operations and of their arms, one after the other.
-use Rattle.std.proofs.Common.{◌≡◌, ◌↔◌, ◌<◌, ◌⊎◌, inl, inr, ℕ, zero, suc, List, [], ◌∷◌, ◌++◌, length, Some, Result, Ok, Err, IfOk, slice_get, refl, sym, ap, subst, ◌∙◌, arith}
+use Rattle.std.proofs.Common.{◌≡◌, ◌↔◌, ◌<◌, ◌⊎◌, inl, inr, ℕ, Bool, true, false, ◌==◌, if◌then◌else◌, zero, suc, List, [], ◌∷◌, ◌++◌, length, Some, Result, Ok, Err, IfOk, slice_get, refl, sym, ap, subst, ◌∙◌, arith}
 use Rattle.kit_base.specs.declared.errors.NoMemory.{NoMemory}
 use Rattle.mint.specs.Types.{Ty}
 use Rattle.cast_stub.specs.declared.send.SendCode.{SendCode}
 use Rattle.stub_lower.specs.Leads.{Leads}
 use Rattle.pres.specs.Bindings.{Binding}
+use Rattle.back_cdr.specs.Targets.{IsCdr}
 use Rattle.stub_codes.specs.declared.stub.Stub.{Stub}
-use Rattle.stub_codes.specs.Backs.{encoding, other_encoding, lead, reply_lead}
+use Rattle.stub_codes.specs.Backs.{encoding, other_encoding, IsMinorOver, lead, reply_lead}
 use Rattle.stub_codes.specs.Messages.{request_type}
 use Rattle.stub_codes.specs.Replies.{HasArm, arm_type}
 use Rattle.stub_codes.specs.Receiving.{Receives, ReceivesOther}
 use Rattle.stub_codes.specs.Sending.{Sends, SendsAfter}
-use Rattle.stub_codes.specs.Stubs.{HasReplies, IsStub, AreStubs}
+use Rattle.stub_codes.specs.Stubs.{HasReplies, IsStub, AreStubs, replies_in}
 use Rattle.stub_codes.proofs.Following.{some_same}
 use Rattle.stub_codes.proofs.Leading.{are_heads, are_reply_heads}
 use Rattle.stub_codes.proofs.Places.{item_at}
 
 -- the code of an operation, from the codes of its request's node
-pub stub_made : (b : Binding) (op : ℕ) (t : Ty) (first : SendCode) (s : Stub) → t ≡ request_type b op → Leads (lead b op) first
+pub stub_made : (b : Binding) (m op : ℕ) (t : Ty) (first : SendCode) (s : Stub) → t ≡ request_type b op → Leads (lead b m op) first
     → SendsAfter b.back first t s.send
     → Receives (encoding b.back) t s.recv → ReceivesOther (other_encoding b.back) t s.other
-    → HasReplies b op s.replies → ((k : ℕ) → k < length s.replies → HasArm b op k) → IsStub b op s
-stub_made b op t first s same leads sends receives other replies arms =
+    → HasReplies b 0 op s.replies → ((k : ℕ) → k < length s.replies → HasArm b op k)
+    → (IsCdr b.back → HasReplies b 2 op s.later) → ((k : ℕ) → k < length s.later → HasArm b op k) → IsStub b m op s
+stub_made b m op t first s same leads sends receives other replies arms later later_arms =
     record {
-      send = subst (λ (u : Ty). Sends b.back (lead b op) u s.send) same (sends (lead b op) leads (are_heads b.back b op));
+      send = subst (λ (u : Ty). Sends b.back (lead b m op) u s.send) same (sends (lead b m op) leads (are_heads b.back b m op));
       recv = subst (λ (u : Ty). Receives (encoding b.back) u s.recv) same receives;
       other = subst (λ (u : Ty). ReceivesOther (other_encoding b.back) u s.other) same other;
-      replies = replies;
-      arms = arms;
-    }
+      replies = in_version;
+      arms = λ n. arms_of (n == 0);
+    } where
+      in_version : (n : ℕ) → IsMinorOver b.back n → HasReplies b n op (replies_in s n)
+      in_version n (inl is) = subst (λ (x : ℕ). HasReplies b x op (replies_in s x)) (sym is) replies
+      in_version n (inr (is, cdr)) = subst (λ (x : ℕ). HasReplies b x op (replies_in s x)) (sym is) (later cdr)
+
+      arms_of : (first : Bool) (k : ℕ) → k < length (if first then s.replies else s.later) → HasArm b op k
+      arms_of true = arms
+      arms_of false = later_arms
 
 -- it sends the replies to an operation with an arm
-abbrev pub IsKept : Binding → ℕ → ℕ → SendCode → Type 0
-IsKept b op k code = Sends b.back (reply_lead b op k) (arm_type b op k) code
+abbrev pub IsKept : Binding → ℕ → ℕ → ℕ → SendCode → Type 0
+IsKept b m op k code = Sends b.back (reply_lead b m op k) (arm_type b op k) code
 
 -- the code of an arm, from that of the arm's node
-pub reply_made : (b : Binding) (op k : ℕ) (t : Ty) (first : SendCode) (r : Result SendCode NoMemory) → t ≡ arm_type b op k
-    → Leads (reply_lead b op k) first → IfOk r (λ code. SendsAfter b.back first t code) → IfOk r (λ code. IsKept b op k code)
-reply_made b op k t first (Ok code) same leads sends =
-    subst (λ (u : Ty). Sends b.back (reply_lead b op k) u code) same (sends (reply_lead b op k) leads (are_reply_heads b.back b op k))
-reply_made b op k t first (Err e) same leads sends = tt
+pub reply_made : (b : Binding) (m op k : ℕ) (t : Ty) (first : SendCode) (r : Result SendCode NoMemory) → t ≡ arm_type b op k
+    → Leads (reply_lead b m op k) first → IfOk r (λ code. SendsAfter b.back first t code) → IfOk r (λ code. IsKept b m op k code)
+reply_made b m op k t first (Ok code) same leads sends =
+    subst (λ (u : Ty). Sends b.back (reply_lead b m op k) u code) same
+    (sends (reply_lead b m op k) leads (are_reply_heads b.back b m op k))
+reply_made b m op k t first (Err e) same leads sends = tt
 
 -- ---- a list of codes
 
@@ -64,22 +74,23 @@ grown {A = A} P xs x n many each is i y e = placed (last_or_in xs x y i e) where
   placed (inr h) = subst (λ (j : ℕ). P j y) (sym (h.0 ∙ many)) (subst (λ (z : A). P n z) h.1 is)
 
 -- one code more
-pub one_more : (b : Binding) (xs : List Stub) (x : Stub) (n : ℕ) → length xs ≡ n → AreStubs b xs → IsStub b n x → AreStubs b (xs ++ x ∷ [])
-one_more b xs x n many each is = grown (IsStub b) xs x n many each is
+pub one_more : (b : Binding) (m : ℕ) (xs : List Stub) (x : Stub) (n : ℕ) → length xs ≡ n → AreStubs b m xs → IsStub b m n x
+    → AreStubs b m (xs ++ x ∷ [])
+one_more b m xs x n many each is = grown (IsStub b m) xs x n many each is
 
 -- ---- the codes of arms
 
 -- each of a list is the code of the arm of its place
-abbrev pub AreKept : Binding → ℕ → List SendCode → Type 0
-AreKept b op codes = (k : ℕ) (code : SendCode) → slice_get codes k ≡ Some code → IsKept b op k code
+abbrev pub AreKept : Binding → ℕ → ℕ → List SendCode → Type 0
+AreKept b m op codes = (k : ℕ) (code : SendCode) → slice_get codes k ≡ Some code → IsKept b m op k code
 
-pub one_reply_more : (b : Binding) (op : ℕ) (xs : List SendCode) (x : SendCode) (n : ℕ) → length xs ≡ n → AreKept b op xs
-    → IsKept b op n x → AreKept b op (xs ++ x ∷ [])
-one_reply_more b op xs x n many each is = grown (IsKept b op) xs x n many each is
+pub one_reply_more : (b : Binding) (m op : ℕ) (xs : List SendCode) (x : SendCode) (n : ℕ) → length xs ≡ n → AreKept b m op xs
+    → IsKept b m op n x → AreKept b m op (xs ++ x ∷ [])
+one_reply_more b m op xs x n many each is = grown (IsKept b m op) xs x n many each is
 
 -- as many as there are arms
-module _ (b : Binding) (op : ℕ) (codes : List SendCode) (n : ℕ) (many : length codes ≡ n) (arms : (k : ℕ) → HasArm b op k ↔ k < n) where
-  pub kept_replies : AreKept b op codes → HasReplies b op codes
+module _ (b : Binding) (m op : ℕ) (codes : List SendCode) (n : ℕ) (many : length codes ≡ n) (arms : (k : ℕ) → HasArm b op k ↔ k < n) where
+  pub kept_replies : AreKept b m op codes → HasReplies b m op codes
   kept_replies each k has =
       let less : k < n = (arms k).0 has in
       let (code, found) = item_at codes k (omega (arith, less, many)) in

@@ -18,17 +18,18 @@ use Rattle.stub_codes.proofs.Done.{kept_at}
 use Rattle.stub_codes.proofs.Places.{item_at}
 
 -- the code of an operation has a cost
-pub request_costs : (x : Coded) (op : ℕ) (s : Stub) (h : Head) (v : Val) → slice_get x.stubs op ≡ Some s → IsStub x.binding op s
+pub request_costs : (x : Coded) (op : ℕ) (s : Stub) (h : Head) (v : Val) → slice_get x.stubs op ≡ Some s
+    → IsStub x.binding x.minor op s
     → IsHead h → IsWellTyped (request_type x.binding op) v → IsSparingRequest x op h v
 request_costs x op s h v found is numbers typed =
     let (c, same, few) = is.send.costs h v numbers typed in
     (c, ap (λ (o : Option Stub). on_some o (λ (t : Stub). cost t.send h v)) found ∙ same, few)
 
 -- and that of an arm
-pub reply_costs : (x : Coded) (op k : ℕ) (code : SendCode) (h : Head) (v : Val) → reply_code_at x.stubs op k ≡ Some code
-    → Sends x.binding.back (reply_lead x.binding op k) (arm_type x.binding op k) code
-    → IsHead h → IsWellTyped (arm_type x.binding op k) v → IsSparingReply x op k h v
-reply_costs x op k code h v found sends numbers typed =
+pub reply_costs : (x : Coded) (op k m : ℕ) (code : SendCode) (h : Head) (v : Val) → reply_code_at x.stubs op k m ≡ Some code
+    → Sends x.binding.back (reply_lead x.binding m op k) (arm_type x.binding op k) code
+    → IsHead h → IsWellTyped (arm_type x.binding op k) v → IsSparingReply x op k m h v
+reply_costs x op k m code h v found sends numbers typed =
     let (c, same, few) = sends.costs h v numbers typed in
     (c, ap (λ (o : Option SendCode). on_some o (λ (y : SendCode). cost y h v)) found ∙ same, few)
 
@@ -39,8 +40,8 @@ requests_cost x op h v coded below numbers typed =
     request_costs x op s h v found (coded.each op s found) numbers typed
 
 pub replies_cost : RepliesHaveCosts
-replies_cost x op k h v coded below has numbers typed =
+replies_cost x op k m h v coded below has version numbers typed =
     let there : op < length x.stubs = omega (arith, below, coded.many) in
     let (s, found) = item_at x.stubs op there in
-    let (code, kept, sends) = (coded.each op s found).replies k has in
-    reply_costs x op k code h v (kept_at x.stubs op k s code found kept) sends numbers typed
+    let (code, kept, sends) = (coded.each op s found).replies m version k has in
+    reply_costs x op k m code h v (kept_at x.stubs op k m s code found kept) sends numbers typed

@@ -11,10 +11,10 @@ use Rattle.cast_stub.specs.Subs.{sent_steps}
 use Rattle.stub_machine.specs.Sending.{paid, IsLong}
 use Rattle.pres.specs.Bindings.{Binding}
 use Rattle.stub_codes.specs.declared.stub.Stub.{Stub}
-use Rattle.stub_codes.specs.Backs.{reply_lead}
+use Rattle.stub_codes.specs.Backs.{IsMinorOver, reply_lead}
 use Rattle.stub_codes.specs.Replies.{HasArm, arm_type}
 use Rattle.stub_codes.specs.Sending.{Sends}
-use Rattle.stub_codes.specs.Stubs.{IsStub, sent_cost, reply_code_at, reply_cost}
+use Rattle.stub_codes.specs.Stubs.{IsStub, replies_in, sent_cost, reply_code_at, reply_cost}
 use Rattle.stub_codes.proofs.Following.{some_same}
 
 -- ---- sending
@@ -41,9 +41,9 @@ module _ {A E : Type 0} (r : Result A E) where
       subst (λ (x : Option Stub). OnOk r (option_map (paid t) (on_some x (λ (y : Stub). cost y.send h v)) ≡ Some u)) (sym found) ran
 
   -- that of the arm's code
-  pub reply_paid : (stubs : List Stub) (op k : ℕ) (s : SendCode) (h : Head) (v : Val) (t u : Tally) → reply_code_at stubs op k ≡ Some s
-      → OnOk r (option_map (paid t) (cost s h v) ≡ Some u) → OnOk r (option_map (paid t) (reply_cost stubs op k h v) ≡ Some u)
-  reply_paid stubs op k s h v t u found ran =
+  pub reply_paid : (stubs : List Stub) (op k m : ℕ) (s : SendCode) (h : Head) (v : Val) (t u : Tally) → reply_code_at stubs op k m ≡ Some s
+      → OnOk r (option_map (paid t) (cost s h v) ≡ Some u) → OnOk r (option_map (paid t) (reply_cost stubs op k m h v) ≡ Some u)
+  reply_paid stubs op k m s h v t u found ran =
       subst (λ (x : Option SendCode). OnOk r (option_map (paid t) (on_some x (λ (y : SendCode). cost y h v)) ≡ Some u)) (sym found) ran
 
 -- ---- room
@@ -55,9 +55,9 @@ request_covered stubs op s h v found is =
     subst (λ (x : Option Stub). AreCovered (on_some x (λ (y : Stub). sent_steps y.send h v)) 0) (sym found) is
 
 -- that of an arm its reply
-pub reply_covered : (stubs : List Stub) (op k : ℕ) (s : SendCode) (h : Head) (v : Val) → reply_code_at stubs op k ≡ Some s
-    → AreCovered (sent_steps s h v) 0 → AreCovered (on_some (reply_code_at stubs op k) (λ (y : SendCode). sent_steps y h v)) 0
-reply_covered stubs op k s h v found is =
+pub reply_covered : (stubs : List Stub) (op k m : ℕ) (s : SendCode) (h : Head) (v : Val) → reply_code_at stubs op k m ≡ Some s
+    → AreCovered (sent_steps s h v) 0 → AreCovered (on_some (reply_code_at stubs op k m) (λ (y : SendCode). sent_steps y h v)) 0
+reply_covered stubs op k m s h v found is =
     subst (λ (x : Option SendCode). AreCovered (on_some x (λ (y : SendCode). sent_steps y h v)) 0) (sym found) is
 
 -- ---- when it is too long
@@ -70,21 +70,23 @@ sent_long x m means long =
 -- ---- the code of an arm
 
 -- it stands at the arm's place of the operation's codes
-pub kept_at : (stubs : List Stub) (op k : ℕ) (s : Stub) (code : SendCode) → slice_get stubs op ≡ Some s
-    → slice_get s.replies k ≡ Some code → reply_code_at stubs op k ≡ Some code
-kept_at stubs op k s code found there = ap (λ (x : Option Stub). on_some x (λ (y : Stub). slice_get y.replies k)) found ∙ there
+pub kept_at : (stubs : List Stub) (op k m : ℕ) (s : Stub) (code : SendCode) → slice_get stubs op ≡ Some s
+    → slice_get (replies_in s m) k ≡ Some code → reply_code_at stubs op k m ≡ Some code
+kept_at stubs op k m s code found there =
+    ap (λ (x : Option Stub). on_some x (λ (y : Stub). slice_get (replies_in y m) k)) found ∙ there
 
 -- and sends the replies with the arm
-pub kept_is : (b : Binding) (op k : ℕ) (s : Stub) (code : SendCode) → IsStub b op s → HasArm b op k
-    → slice_get s.replies k ≡ Some code → Sends b.back (reply_lead b op k) (arm_type b op k) code
-kept_is b op k s code is has there =
-    let (kept, found, sends) = is.replies k has in
-    subst (λ (x : SendCode). Sends b.back (reply_lead b op k) (arm_type b op k) x) (some_same kept code (sym found ∙ there)) sends
+pub kept_is : (b : Binding) (n op k m : ℕ) (s : Stub) (code : SendCode) → IsStub b n op s → HasArm b op k → IsMinorOver b.back m
+    → slice_get (replies_in s m) k ≡ Some code → Sends b.back (reply_lead b m op k) (arm_type b op k) code
+kept_is b n op k m s code is has version there =
+    let (kept, found, sends) = is.replies m version k has in
+    subst (λ (x : SendCode). Sends b.back (reply_lead b m op k) (arm_type b op k) x) (some_same kept code (sym found ∙ there)) sends
 
 -- there is one
-pub none_kept : (b : Binding) (op k : ℕ) (s : Stub) → IsStub b op s → HasArm b op k → slice_get s.replies k ≡ None → ⊥
-none_kept b op k s is has none =
-    let (kept, found, sends) = is.replies k has in
-    never_none kept (slice_get s.replies k) found none where
+pub none_kept : (b : Binding) (n op k m : ℕ) (s : Stub) → IsStub b n op s → HasArm b op k → IsMinorOver b.back m
+    → slice_get (replies_in s m) k ≡ None → ⊥
+none_kept b n op k m s is has version none =
+    let (kept, found, sends) = is.replies m version k has in
+    never_none kept (slice_get (replies_in s m) k) found none where
       never_none : (x : SendCode) (y : Option SendCode) → y ≡ Some x → y ≡ None → ⊥
       never_none x y e f = let same = sym e ∙ f in absurd cc

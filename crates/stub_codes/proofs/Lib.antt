@@ -20,8 +20,22 @@ mod Done
 mod Costing
 -- * A value that was received is what the message has, and nothing else
 mod Found
--- * What is lowered for a table, and the code that receives
+-- * What is lowered for a table
 mod Lowering
+-- What operations that receive give: the draft itself, or so many tests more at most
+mod RecvGiven
+-- What a run of code without calls has filled stays, by induction on the block
+mod RecvLasting
+-- What loops, arms and values behind flags read, with how many tests; and the value of a part that was read
+mod RecvMade
+-- Code in which few needs and skips stand together makes no more tests than are allowed for the value that it gives, by induction on the block
+mod RecvAsking
+-- Code that goes through a type, with its rows as blocks, is allowed few tests for a value, by induction on the type
+mod RecvBounded
+-- Chunked code makes few tests for the value that it gives
+mod RecvTested
+-- * Chunked code receives where the given code does
+mod RecvChunks
 -- Code with its ensures left out stores as much, and is allowed seven moves less for each check, by induction on the code
 mod Eased
 -- Code that goes through a type, with its rows as blocks, has few moves and few stores, by induction on the type

@@ -1,28 +1,20 @@
--- What is lowered for a table, and the code that receives.
-use Rattle.std.proofs.Common.{◌≡◌, List, [], length, Option, Result, Ok, Err, IfOk, ◌∙◌, subst}
+-- What is lowered for a table.
+use Rattle.std.proofs.Common.{◌≡◌, List, length, Option, Result, Ok, Err, IfOk, ◌∙◌, subst}
 use Rattle.kit_base.specs.declared.errors.NoMemory.{NoMemory}
 use Rattle.mint.specs.declared.node.Node.{Node}
-use Rattle.mint.specs.Types.{Ty}
 use Rattle.wire_def.specs.declared.encoding.Back.{Back}
 use Rattle.wire_def.specs.declared.encoding.Encoding.{Encoding}
-use Rattle.wire_def.specs.Places.{IsPlace}
-use Rattle.cast_stub.specs.declared.recv.RecvCode.{RecvCode}
 use Rattle.cast_stub.specs.declared.recv.RecvOp.{RecvOp}
 use Rattle.cast_stub.specs.Follows.{AllFollow}
-use Rattle.cast_stub.specs.Got.{IsSoundCode}
-use Rattle.cast_stub.specs.Kept.{StaysSoundAt}
 use Rattle.cast_stub.specs.Layouts.{layout_of}
-use Rattle.cast_stub.specs.RecvBlock.{code_seen}
 use Rattle.cast_stub.specs.Traces as received
 use Rattle.cast_stub.specs.Turned.{AllTurned}
-use Rattle.copy_inline.specs.RecvCallFree.{HasNoCall}
 use Rattle.storage_class.specs.Spans.{AreClasses}
 use Rattle.stub_lower.specs.Lowered.{CodesSend}
 use Rattle.stub_lower.specs.RecvLowered.{CodesReceive}
 use Rattle.stub_codes.specs.declared.lowered.Lowered.{Lowered}
 use Rattle.stub_codes.specs.Backs.{encoding, other_encoding}
 use Rattle.stub_codes.specs.Lowered.{AreReceivers, AreOthers, AreLowered}
-use Rattle.stub_codes.specs.Receiving.{Receives}
 
 pub lowered : (k : Back) (nodes : List Node) (e : Encoding) (x : Option Encoding) (low : Lowered) → e ≡ encoding k → x ≡ other_encoding k
     → length low.sends ≡ length nodes → CodesSend e nodes low.sends → AllFollow nodes low.sends → AllTurned (layout_of e) nodes low.sends
@@ -46,9 +38,3 @@ pub receivers : (e : Encoding) (nodes : List Node) (r : Result (List (List RecvO
     → IfOk r (λ subs. AreReceivers e nodes subs)
 receivers e nodes (Ok subs) many sound traces turned = record { many = many; sound = sound; traces = traces; turned = turned }
 receivers e nodes (Err x) many sound traces turned = tt
-
-pub receives : (e : Encoding) (t : Ty) (flat : RecvCode) (r : Result RecvCode NoMemory) → IsSoundCode e t (IsPlace e) flat
-    → IfOk r (λ c. StaysSoundAt (IsPlace e) e t flat c)
-    → IfOk r (λ c. HasNoCall (code_seen c.ops)) → IfOk r (λ c. c.subs ≡ []) → IfOk r (λ c. Receives e t c)
-receives e t flat (Ok code) sound stays calls none = record { sound = stays sound; calls = calls; subs = none }
-receives e t flat (Err x) sound stays calls none = tt

@@ -17,14 +17,17 @@ use Rattle.back_xdr.specs.Auth.{Auth, auth_octets}
 use Rattle.back_xdr.specs.Call.{Call, call_octets}
 use Rattle.back_xdr.specs.Seeking as xdr_seeking
 use Rattle.back_cdr.specs.Seeking as cdr_seeking
+use Rattle.back_cdr.specs.Targets.{IsCdr}
+use Rattle.back_cdr.proofs.Named.{minor_called}
 use Rattle.back_mach.specs.declared.call.MachCall.{MachCall}
 use Rattle.back_mach.specs.Header.{SixSpell}
 use Rattle.back_mach.specs.Seeking as mach_seeking
-use Rattle.stub_codes.specs.Backs.{Takes, BeginsOver}
+use Rattle.stub_codes.specs.Backs.{IsMinorOver, Takes, BeginsOver}
+use Rattle.stub_codes.proofs.Leading.{minor_over}
 use Rattle.stub_codes.specs.Laws.{BodiesAreTaken}
 
 abbrev IsTaken : Back → Called → Type 0
-IsTaken k c = Takes k c.encoding × IsPlace c.encoding c.used
+IsTaken k c = Takes k c.encoding × IsPlace c.encoding c.used × IsMinorOver k c.minor
 
 -- ---- ONC
 
@@ -45,8 +48,11 @@ xdr_taken b o c (call, (head, used, begins, is), same) =
     let long : used ≡ length (take used o) = omega (arith, length-take used o, begins.0) in
     let four : used % 4 ≡ 0 = ap (λ (n : ℕ). n % 4) (long ∙ whole) ∙ call_whole head in
     let mine : used ≡ c.used = ap (λ (t : OncCall). t.used) is ∙ ap (λ (t : Called). t.used) same in
-    let lies : Xdr ≡ c.encoding = ap (λ (t : Called). t.encoding) same in
-    (inl (sym lies), subst (λ (e : Encoding). IsPlace e c.used) lies (subst (λ (n : ℕ). n % 4 ≡ 0) mine four))
+    let lies : Xdr ≡ c.encoding = ap (λ (t : Called). t.encoding) same in (
+      inl (sym lies),
+      subst (λ (e : Encoding). IsPlace e c.used) lies (subst (λ (n : ℕ). n % 4 ≡ 0) mine four),
+      inl (sym (ap (λ (t : Called). t.minor) same)),
+    )
 
 -- ---- GIOP
 
@@ -62,12 +68,13 @@ laid_placed : (r : Order) (n : ℕ) → IsPlace (laid r) n
 laid_placed Big n = tt
 laid_placed Little n = tt
 
-cdr_taken : (k : Back) → ((r : Order) → Takes k (laid r)) → (b : Binding) (o : List ℕ) (c : Called) → cdr_seeking.Calls b o c → IsTaken k c
-cdr_taken k takes b o c (reported, begins, same) =
+cdr_taken : (k : Back) → IsCdr k → ((r : Order) → Takes k (laid r)) → (b : Binding) (o : List ℕ) (c : Called) → cdr_seeking.Calls b o c → IsTaken k c
+cdr_taken k cdr takes b o c (reported, begins, same) =
     let lies : laid reported.head.order ≡ c.encoding = ap (λ (t : Called). t.encoding) same in (
       subst (λ (e : Encoding). Takes k e) lies (takes reported.head.order),
       subst (λ (e : Encoding). IsPlace e c.used) lies
           (laid_placed reported.head.order c.used),
+      minor_over k c.minor cdr (minor_called b o c (reported, begins, same)),
     )
 
 -- ---- Mach
@@ -79,15 +86,18 @@ mach_taken b o c (call, (head, used, begins, is), same) =
     let long : used ≡ length (take used o) = omega (arith, length-take used o, begins.0) in
     let four : used % 4 ≡ 0 = ap (λ (n : ℕ). n % 4) (long ∙ whole) in
     let mine : used ≡ c.used = ap (λ (t : MachCall). t.used) is ∙ ap (λ (t : Called). t.used) same in
-    let lies : Mach ≡ c.encoding = ap (λ (t : Called). t.encoding) same in
-    (inl (sym lies), subst (λ (e : Encoding). IsPlace e c.used) lies (subst (λ (n : ℕ). n % 4 ≡ 0) mine four))
+    let lies : Mach ≡ c.encoding = ap (λ (t : Called). t.encoding) same in (
+      inl (sym lies),
+      subst (λ (e : Encoding). IsPlace e c.used) lies (subst (λ (n : ℕ). n % 4 ≡ 0) mine four),
+      inl (sym (ap (λ (t : Called). t.minor) same)),
+    )
 
 -- ---- all of them
 
 over : (k : Back) (b : Binding) (o : List ℕ) (c : Called) → BeginsOver k b o c → IsTaken k c
 over back.Xdr b o c h = xdr_taken b o c h
-over back.CdrBig b o c h = cdr_taken back.CdrBig big_taken b o c h
-over back.CdrLittle b o c h = cdr_taken back.CdrLittle little_taken b o c h
+over back.CdrBig b o c h = cdr_taken back.CdrBig refl big_taken b o c h
+over back.CdrLittle b o c h = cdr_taken back.CdrLittle refl little_taken b o c h
 over back.Mach b o c h = mach_taken b o c h
 
 pub taken : BodiesAreTaken

@@ -16,7 +16,7 @@ use Rattle.back_xdr.specs.Procedures.{procedure_of}
 use Rattle.back_xdr.specs.Seeking as xdr_seeking
 use Rattle.back_cdr.specs.Leads as cdr_leads
 use Rattle.back_cdr.specs.Seeking as cdr_seeking
-use Rattle.back_cdr.specs.Targets.{target_of}
+use Rattle.back_cdr.specs.Targets.{IsCdr, has_body, target_of}
 use Rattle.back_mach.specs.Leads as mach_leads
 use Rattle.back_mach.specs.Routines.{routine_of}
 use Rattle.back_mach.specs.Seeking as mach_seeking
@@ -38,27 +38,31 @@ other_encoding _ = None
 abbrev pub Takes : Back → Encoding → Type 0
 Takes k e = (e ≡ encoding k) ⊎ (other_encoding k ≡ Some e)
 
--- the head of an operation's request over a back end
-abbrev pub lead_over : Back → Binding → ℕ → Head → List ℕ
-lead_over back.Xdr b op head = xdr_leads.lead (procedure_of b op) head.id
-lead_over back.CdrBig b op head = cdr_leads.lead Big (target_of b op) head.id
-lead_over back.CdrLittle b op head = cdr_leads.lead Little (target_of b op) head.id
-lead_over back.Mach b op head = mach_leads.lead (routine_of b op) head
+-- the minor numbers of the versions of heads over a back end: 0, and over CDR also 2
+abbrev pub IsMinorOver : Back → ℕ → Type 0
+IsMinorOver k m = (m ≡ 0) ⊎ ((m ≡ 2) × IsCdr k)
+
+-- the head of an operation's request over a back end, in a version
+abbrev pub lead_over : Back → Binding → ℕ → ℕ → Head → List ℕ
+lead_over back.Xdr b m op head = xdr_leads.lead (procedure_of b op) head.id
+lead_over back.CdrBig b m op head = cdr_leads.lead m (has_body b op) Big (target_of b op) head.id
+lead_over back.CdrLittle b m op head = cdr_leads.lead m (has_body b op) Little (target_of b op) head.id
+lead_over back.Mach b m op head = mach_leads.lead (routine_of b op) head
 
 -- the head of an operation's request
-abbrev pub lead : Binding → ℕ → Head → List ℕ
-lead b op head = lead_over b.back b op head
+abbrev pub lead : Binding → ℕ → ℕ → Head → List ℕ
+lead b m op head = lead_over b.back b m op head
 
--- the head of a reply to an operation with an arm, over a back end
-abbrev pub reply_lead_over : Back → Binding → ℕ → ℕ → Head → List ℕ
-reply_lead_over back.Xdr b op k head = xdr_leads.reply_lead (exceptions b op) k head.id
-reply_lead_over back.CdrBig b op k head = cdr_leads.reply_lead Big (target_of b op) k head.id
-reply_lead_over back.CdrLittle b op k head = cdr_leads.reply_lead Little (target_of b op) k head.id
-reply_lead_over back.Mach b op k head = mach_leads.reply_lead (routine_of b op) (exceptions b op) k head
+-- the head of a reply to an operation with an arm, over a back end, in a version
+abbrev pub reply_lead_over : Back → Binding → ℕ → ℕ → ℕ → Head → List ℕ
+reply_lead_over back.Xdr b m op k head = xdr_leads.reply_lead (exceptions b op) k head.id
+reply_lead_over back.CdrBig b m op k head = cdr_leads.reply_lead m Big (target_of b op) k head.id
+reply_lead_over back.CdrLittle b m op k head = cdr_leads.reply_lead m Little (target_of b op) k head.id
+reply_lead_over back.Mach b m op k head = mach_leads.reply_lead (routine_of b op) (exceptions b op) k head
 
 -- the head of a reply to an operation with an arm: 0 is the answer, k the k-th exception
-abbrev pub reply_lead : Binding → ℕ → ℕ → Head → List ℕ
-reply_lead b op k head = reply_lead_over b.back b op k head
+abbrev pub reply_lead : Binding → ℕ → ℕ → ℕ → Head → List ℕ
+reply_lead b m op k head = reply_lead_over b.back b m op k head
 
 -- a message that is whole, in which its length is stated where its head states it
 abbrev pub sized : Back → List ℕ → List ℕ

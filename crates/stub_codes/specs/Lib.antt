@@ -1,3 +1,4 @@
+pub mod Asked
 pub mod Backs
 pub mod Laws
 pub mod Lowered

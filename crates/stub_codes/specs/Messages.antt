@@ -13,6 +13,6 @@ use Rattle.stub_codes.specs.Backs.{encoding, lead, sized}
 abbrev pub framed : Back → List ℕ → Ty → Val → List ℕ
 framed k o t v = sized k (o ++ send (encoding k) t (length o) v)
 
--- the message of a request for an operation
-abbrev pub message : Binding → ℕ → Head → Val → List ℕ
-message b op head v = framed b.back (lead b op head) (request_type b op) v
+-- the message of a request for an operation, in a version
+abbrev pub message : Binding → ℕ → ℕ → Head → Val → List ℕ
+message b m op head v = framed b.back (lead b m op head) (request_type b op) v

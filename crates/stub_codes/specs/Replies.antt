@@ -31,16 +31,16 @@ arm_type b op k = unwrap_or (arm_type_in (reply_type b op) k) void_type
 abbrev pub AreArms : Binding → ℕ → List (ℤ × ℕ) → Type 0
 AreArms b op arms = (k : ℕ) (a : ℤ × ℕ) → slice_get arms k ≡ Some a → (a.1 < length b.nodes) × (type_at b.nodes a.1 ≡ arm_type b op k)
 
--- the head of a reply with an arm, and the arm's value at the position after the head
-abbrev pub arm_parts : Binding → ℕ → ℕ → Head → Val → List ℕ
-arm_parts b op k head w =
-    reply_lead b op k head ++ send (encoding b.back) (arm_type b op k) (length (reply_lead b op k head)) w
+-- the head of a reply with an arm, in a version, and the arm's value at the position after the head
+abbrev pub arm_parts : Binding → ℕ → ℕ → ℕ → Head → Val → List ℕ
+arm_parts b m op k head w =
+    reply_lead b m op k head ++ send (encoding b.back) (arm_type b op k) (length (reply_lead b m op k head)) w
 
 -- the two, in which the length of the whole is stated
-abbrev pub arm_message : Binding → ℕ → ℕ → Head → Val → List ℕ
-arm_message b op k head w = sized b.back (arm_parts b op k head w)
+abbrev pub arm_message : Binding → ℕ → ℕ → ℕ → Head → Val → List ℕ
+arm_message b m op k head w = sized b.back (arm_parts b m op k head w)
 
--- the message of a reply: that of the arm that its value is of
-abbrev pub reply_message : Binding → ℕ → Head → Val → List ℕ
-reply_message b op head (arm (pos k) w) = arm_message b op k head w
-reply_message b op head _ = []
+-- the message of a reply, in a version: that of the arm that its value is of
+abbrev pub reply_message : Binding → ℕ → ℕ → Head → Val → List ℕ
+reply_message b m op head (arm (pos k) w) = arm_message b m op k head w
+reply_message b m op head _ = []

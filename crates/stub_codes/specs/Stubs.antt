@@ -1,5 +1,5 @@
 -- The stub code of each operation of a binding.
-use Rattle.std.specs.Prelude.{◌≡◌, ◌<◌, ℕ, List, length, Some, Option, slice_get}
+use Rattle.std.specs.Prelude.{◌≡◌, ◌<◌, ℕ, List, length, Some, Option, slice_get, ◌==◌, if◌then◌else◌}
 use Rattle.mint.specs.Types.{Ty}
 use Rattle.mint.specs.Values.{Val}
 use Rattle.wire_def.specs.declared.head.Head.{Head}
@@ -14,52 +14,58 @@ use Rattle.stub_receiver.specs.declared.recv.Got.{Got}
 use Rattle.stub_receiver.specs.Ran.{place_of, IsGot}
 use Rattle.pres.specs.Bindings.{Binding}
 use Rattle.stub_codes.specs.declared.stub.Stub.{Stub}
-use Rattle.stub_codes.specs.Backs.{encoding, other_encoding, lead, reply_lead}
+use Rattle.stub_codes.specs.Backs.{encoding, other_encoding, IsMinorOver, lead, reply_lead}
 use Rattle.stub_codes.specs.Messages.{request_type}
 use Rattle.stub_codes.specs.Receiving.{Receives, ReceivesOther}
 use Rattle.stub_codes.specs.Replies.{HasArm, arm_type}
 use Rattle.stub_codes.specs.Sending.{Sends}
 use Rattle.stub_codes.specs.Within.{HasCostWithin}
 
--- the place of each arm of an operation's reply has code that sends the messages of the arm
-abbrev pub HasReplies : Binding → ℕ → List SendCode → Type 0
-HasReplies b op codes = (k : ℕ) → HasArm b op k
-    → (code : SendCode) × (slice_get codes k ≡ Some code) × Sends b.back (reply_lead b op k) (arm_type b op k) code
+-- the place of each arm of an operation's reply has code that sends the messages of the arm in a version
+abbrev pub HasReplies : Binding → ℕ → ℕ → List SendCode → Type 0
+HasReplies b m op codes = (k : ℕ) → HasArm b op k
+    → (code : SendCode) × (slice_get codes k ≡ Some code) × Sends b.back (reply_lead b m op k) (arm_type b op k) code
 
--- the code of an operation: it sends its requests, receives what goes into it, in either order where there are two, and
--- sends its replies, one code for each arm
-pub record IsStub (b : Binding) (op : ℕ) (s : Stub) : Type 0 where
-  pub send : Sends b.back (lead b op) (request_type b op) s.send
+-- the codes of an operation's replies in a version
+abbrev pub replies_in : Stub → ℕ → List SendCode
+replies_in s m = if m == 0 then s.replies else s.later
+
+-- the code of an operation: it sends its requests in a version, receives what goes into it, in either order where there are two,
+-- and sends its replies in each version of the back end, one code for each arm
+pub record IsStub (b : Binding) (m op : ℕ) (s : Stub) : Type 0 where
+  pub send : Sends b.back (lead b m op) (request_type b op) s.send
   pub recv : Receives (encoding b.back) (request_type b op) s.recv
   pub other : ReceivesOther (other_encoding b.back) (request_type b op) s.other
-  pub replies : HasReplies b op s.replies
-  pub arms : (k : ℕ) → k < length s.replies → HasArm b op k
+  pub replies : (n : ℕ) → IsMinorOver b.back n → HasReplies b n op (replies_in s n)
+  pub arms : (n k : ℕ) → k < length (replies_in s n) → HasArm b op k
 
--- each of a list is the code of the operation of its place
-abbrev pub AreStubs : Binding → List Stub → Type 0
-AreStubs b stubs = (op : ℕ) (s : Stub) → slice_get stubs op ≡ Some s → IsStub b op s
+-- each of a list is the code of the operation of its place, whose requests are sent in a version
+abbrev pub AreStubs : Binding → ℕ → List Stub → Type 0
+AreStubs b m stubs = (op : ℕ) (s : Stub) → slice_get stubs op ≡ Some s → IsStub b m op s
 
--- a binding with the code of each of its operations
+-- a binding, the version of the messages that are sent, and the code of each operation
 pub record Coded : Type 0 where
   pub binding : Binding
+  pub minor : ℕ
   pub stubs : List Stub
 
--- one for each operation, each the code of its operation
+-- a version of the back end, and one code for each operation, each the code of its operation
 pub record IsCoded (c : Coded) : Type 0 where
+  pub minor : IsMinorOver c.binding.back c.minor
   pub many : length c.stubs ≡ length c.binding.ops
-  pub each : AreStubs c.binding c.stubs
+  pub each : AreStubs c.binding c.minor c.stubs
 
 -- what the code of an operation costs that sends
 abbrev pub sent_cost : List Stub → ℕ → Head → Val → Option Cost
 sent_cost stubs op h v = on_some (slice_get stubs op) (λ s. cost s.send h v)
 
--- the code that is kept for an arm of an operation's reply
-abbrev pub reply_code_at : List Stub → ℕ → ℕ → Option SendCode
-reply_code_at stubs op k = on_some (slice_get stubs op) (λ s. slice_get s.replies k)
+-- the code that is kept for an arm of an operation's reply in a version
+abbrev pub reply_code_at : List Stub → ℕ → ℕ → ℕ → Option SendCode
+reply_code_at stubs op k m = on_some (slice_get stubs op) (λ s. slice_get (replies_in s m) k)
 
 -- what that code costs
-abbrev pub reply_cost : List Stub → ℕ → ℕ → Head → Val → Option Cost
-reply_cost stubs op k h v = on_some (reply_code_at stubs op k) (λ c. cost c h v)
+abbrev pub reply_cost : List Stub → ℕ → ℕ → ℕ → Head → Val → Option Cost
+reply_cost stubs op k m h v = on_some (reply_code_at stubs op k m) (λ c. cost c h v)
 
 -- the code of an operation ensures the room for all that it appends for this request
 abbrev pub IsCoveredRequest : Coded → ℕ → Head → Val → Type 0
@@ -67,17 +73,17 @@ IsCoveredRequest x op h v = AreCovered (on_some (slice_get x.stubs op) (λ s. se
 
 -- it has a cost for it, within what the message allows
 abbrev pub IsSparingRequest : Coded → ℕ → Head → Val → Type 0
-IsSparingRequest x op h v = HasCostWithin (encoding x.binding.back) (length (lead x.binding op h)) (request_type x.binding op) v
+IsSparingRequest x op h v = HasCostWithin (encoding x.binding.back) (length (lead x.binding x.minor op h)) (request_type x.binding op) v
     (sent_cost x.stubs op h v)
 
--- the code of an arm ensures the room for all that it appends for a reply with this value of the arm
-abbrev pub IsCoveredReply : Coded → ℕ → ℕ → Head → Val → Type 0
-IsCoveredReply x op k h v = AreCovered (on_some (reply_code_at x.stubs op k) (λ c. sent_steps c h v)) 0
+-- the code of an arm in a version ensures the room for all that it appends for a reply with this value of the arm
+abbrev pub IsCoveredReply : Coded → ℕ → ℕ → ℕ → Head → Val → Type 0
+IsCoveredReply x op k m h v = AreCovered (on_some (reply_code_at x.stubs op k m) (λ c. sent_steps c h v)) 0
 
 -- it has a cost for it, within what the message allows
-abbrev pub IsSparingReply : Coded → ℕ → ℕ → Head → Val → Type 0
-IsSparingReply x op k h v = HasCostWithin (encoding x.binding.back) (length (reply_lead x.binding op k h)) (arm_type x.binding op k) v
-    (reply_cost x.stubs op k h v)
+abbrev pub IsSparingReply : Coded → ℕ → ℕ → ℕ → Head → Val → Type 0
+IsSparingReply x op k m h v = HasCostWithin (encoding x.binding.back) (length (reply_lead x.binding m op k h)) (arm_type x.binding op k) v
+    (reply_cost x.stubs op k m h v)
 
 -- what the code of an operation gives, that receives in the order of the messages that are sent
 abbrev pub IsGivenBy : List Stub → ℕ → Ty → Got → View → View → Type 0

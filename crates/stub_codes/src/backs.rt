@@ -10,7 +10,7 @@ ghost use Rattle.cast_stub.specs.Turned.{AllTurned};
 ghost use Rattle.stub_lower.specs.Leads.{AreChunks, Leads};
 ghost use Rattle.stub_lower.specs.Lowered.{CodesSend};
 ghost use Rattle.stub_lower.specs.RecvLowered.{CodesReceive};
-ghost use Rattle.stub_codes.specs.Backs.{encoding, other_encoding, lead, reply_lead, tail};
+ghost use Rattle.stub_codes.specs.Backs.{encoding, other_encoding, lead, reply_lead, tail, IsMinorOver};
 ghost use Rattle.stub_codes.specs.Replies.{HasArm};
 
 use crate::arms::arms_have_ids;
@@ -75,35 +75,43 @@ pub(crate) fn lower_recv(alloc: Global, enc: Encoding, mint: &Mint) -> Result<Re
     }
 }
 
-/// The code of the head of an operation's request.
-pub(crate) fn lead_of(alloc: Global, bound: &Bound, op: u32) -> Result<SendCode, NoMemory>
-    requires { op < length bound.now.ops }
-    ensures means { IfOk result (λ code. Leads (lead bound.now op) code) }
+/// The code of the head of an operation's request in a version.
+pub(crate) fn lead_of(
+    alloc: Global,
+    bound: &Bound,
+    op: u32,
+    minor: u8,
+) -> Result<SendCode, NoMemory>
+    requires op { op < length bound.now.ops }
+    requires minor { IsMinorOver bound.now.back minor }
+    ensures means { IfOk result (λ code. Leads (lead bound.now minor op) code) }
     ensures chunks { IfOk result AreChunks }
 {
     match bound.back() {
         Back::Xdr => back_xdr::lead_call(alloc, bound, op),
-        Back::CdrBig | Back::CdrLittle => back_cdr::lead_call(alloc, bound, op),
+        Back::CdrBig | Back::CdrLittle => back_cdr::lead_call(alloc, bound, op, minor),
         Back::Mach => back_mach::lead_call(alloc, bound, op),
     }
 }
 
-/// The code of the head of a reply to an operation with an arm.
+/// The code of the head of a reply to an operation with an arm, in a version.
 pub(crate) fn reply_lead_of(
     alloc: Global,
     bound: &Bound,
     op: u32,
     arm: u32,
+    minor: u8,
 ) -> Result<SendCode, NoMemory>
     requires op { op < length bound.now.ops }
     requires arm { HasArm bound.now op arm }
-    ensures means { IfOk result (λ code. Leads (reply_lead bound.now op arm) code) }
+    requires minor { IsMinorOver bound.now.back minor }
+    ensures means { IfOk result (λ code. Leads (reply_lead bound.now minor op arm) code) }
     ensures chunks { IfOk result AreChunks }
 {
     arms_have_ids(bound, op, arm);
     match bound.back() {
         Back::Xdr => back_xdr::lead_reply(alloc, bound, op, arm),
-        Back::CdrBig | Back::CdrLittle => back_cdr::lead_reply(alloc, bound, op, arm),
+        Back::CdrBig | Back::CdrLittle => back_cdr::lead_reply(alloc, bound, op, arm, minor),
         Back::Mach => back_mach::lead_reply(alloc, bound, op, arm),
     }
 }

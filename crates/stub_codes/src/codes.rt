@@ -1,7 +1,7 @@
 //! A binding with the code of each of its operations.
 
 ghost use Rattle.std.specs.Prelude.{◌≡◌, ◌<◌, length, IfOk, Some, option_map, slice_get};
-ghost use Rattle.stub_codes.specs.Backs.{encoding, lead, reply_lead, Takes};
+ghost use Rattle.stub_codes.specs.Backs.{encoding, lead, reply_lead, IsMinorOver, Takes};
 ghost use Rattle.stub_codes.specs.Messages.{request_type};
 ghost use Rattle.stub_codes.specs.Receiving.{Receives};
 ghost use Rattle.stub_codes.specs.Replies.{HasArm, arm_type};
@@ -23,6 +23,7 @@ use wire_def::Encoding;
 #[derive(Drop)]
 pub struct Codes {
     bound: Bound,
+    minor: u8,
     stubs: Stubs,
 }
 
@@ -37,19 +38,26 @@ impl Model for Codes {
 
     ghost coded = { Prim.hlevel (codes, coded_shape, coded_members, s.the_row.coded, r.the_row.coded) };
 
-    ghost view = { λ c. record { binding = c.bound; stubs = c.stubs } };
+    ghost view = { λ c. record { binding = c.bound; minor = c.minor; stubs = c.stubs } };
 
-    ghost invariant = { λ c. IsCoded (record { binding = c.bound; stubs = c.stubs }) };
+    ghost invariant = { λ c. IsCoded (record { binding = c.bound; minor = c.minor; stubs = c.stubs }) };
 }
 
 impl Codes {
-    /// The code of each operation of what is bound. The nodes are lowered once.
-    pub fn compile(alloc: Global, bound: Bound) -> Result<Codes, NoMemory>
+    /// The code of each operation of what is bound, whose messages are sent in a version, by its minor number. The
+    /// nodes are lowered once.
+    pub fn compile(alloc: Global, bound: Bound, minor: u8) -> Result<Codes, NoMemory>
+        requires { IsMinorOver bound.back minor }
         ensures binding { IfOk result (λ c. c.binding ≡ bound) }
+        ensures minor { IfOk result (λ c. c.minor ≡ minor) }
         ensures coded { IfOk result IsCoded }
     {
-        let stubs = stubs_of(alloc, &bound)?;
-        Ok(Codes { bound, stubs })
+        let stubs = stubs_of(alloc, &bound, minor)?;
+        Ok(Codes {
+            bound,
+            minor,
+            stubs,
+        })
     }
 
     /// What is bound.
@@ -57,6 +65,14 @@ impl Codes {
         ensures { result.now ≡ self.now.binding }
     {
         &self.bound
+    }
+
+    /// The version of the messages that are sent, by its minor number.
+    pub fn minor(&self) -> u8
+        ensures value { result ≡ self.now.minor }
+        ensures is { IsMinorOver self.now.binding.back result }
+    {
+        self.minor
     }
 
     /// There is one code for each operation, and each is what is promised of its operation. It does nothing.
@@ -70,7 +86,7 @@ impl Codes {
     pub fn stub(&self, op: u32) -> &Stub
         requires { op < length self.now.binding.ops }
         ensures found { slice_get self.now.stubs op ≡ Some result.now }
-        ensures is { IsStub self.now.binding op result.now }
+        ensures is { IsStub self.now.binding self.now.minor op result.now }
     {
         match self.stubs.get(op as usize) {
             Some(stub) => stub,
@@ -82,21 +98,22 @@ impl Codes {
     pub fn send_code(&self, op: u32) -> &SendCode
         requires { op < length self.now.binding.ops }
         ensures found { option_map (λ s. s.send) (slice_get self.now.stubs op) ≡ Some result.now }
-        ensures sends { Sends self.now.binding.back (lead self.now.binding op)
+        ensures sends { Sends self.now.binding.back (lead self.now.binding self.now.minor op)
             (request_type self.now.binding op) result.now }
     {
         &self.stub(op).send
     }
 
-    /// The code that sends the replies to an operation with an arm.
-    pub fn reply_code(&self, op: u32, arm: u32) -> &SendCode
+    /// The code that sends the replies to an operation with an arm, in a version.
+    pub fn reply_code(&self, op: u32, arm: u32, minor: u8) -> &SendCode
         requires op { op < length self.now.binding.ops }
         requires arm { HasArm self.now.binding op arm }
-        ensures found { reply_code_at self.now.stubs op arm ≡ Some result.now }
-        ensures sends { Sends self.now.binding.back (reply_lead self.now.binding op arm)
+        requires minor { IsMinorOver self.now.binding.back minor }
+        ensures found { reply_code_at self.now.stubs op arm minor ≡ Some result.now }
+        ensures sends { Sends self.now.binding.back (reply_lead self.now.binding minor op arm)
             (arm_type self.now.binding op arm) result.now }
     {
-        match self.stub(op).replies.get(arm as usize) {
+        match self.stub(op).replies_in(minor).get(arm as usize) {
             Some(code) => code,
             None => unreachable!(),
         }

@@ -2,7 +2,8 @@
 
 ghost use Rattle.stub_codes.specs.Laws.{BodiesAreTaken, RepliesHaveCosts, RequestsHaveCosts};
 
-/// The body of a call that is received may be received by the code of an operation, from the head's end on.
+/// A call that is received is of a version of its back end, and its body may be received by the code of an operation,
+/// from the head's end on.
 pub fn bodies_are_taken()
     ensures { BodiesAreTaken }
 {}
@@ -13,7 +14,7 @@ pub fn requests_have_costs()
     ensures { RequestsHaveCosts }
 {}
 
-/// A reply has a cost, by the code that is kept for its arm, within what its message allows.
+/// A reply has a cost, in each version, by the code that is kept for its arm, within what its message allows.
 pub fn replies_have_costs()
     ensures { RepliesHaveCosts }
 {}

@@ -1,18 +1,34 @@
 //! The code that receives the values of a node.
 
-ghost use Rattle.std.specs.Prelude.{◌<◌, length, IfOk};
+ghost use Rattle.std.specs.Prelude.{ℕ, ◌<◌, length, IfOk};
 ghost use Rattle.mint.specs.Types.{type_at};
+ghost use Rattle.wire_def.specs.Places.{IsPlace};
+ghost use Rattle.chunker.specs.Phases.{AtPhase, IsPhase};
 ghost use Rattle.stub_codes.specs.Lowered.{AreOthers, AreReceivers};
 ghost use Rattle.stub_codes.specs.Receiving.{Receives, ReceivesOther};
 
 use cast_stub::{RecvCode, RecvSubs};
+use chunker::{Phase, chunk_recv};
 use copy_inline::{inline_recv, rows_recv};
 use kit_base::NoMemory;
 use mint::table::{Mint, NodeId};
 use std::alloc::Global;
 use wire_def::Encoding;
 
-/// The code that receives the values of a node over an encoding: inlined, its rows as blocks.
+/// What is known of a position at which a value begins.
+fn phase_of(enc: Encoding) -> Phase
+    ensures phase { IsPhase result }
+    ensures within { (p : ℕ) → AtPhase result p → IsPlace enc p }
+    ensures all { (p : ℕ) → IsPlace enc p → AtPhase result p }
+{
+    match enc {
+        Encoding::Xdr | Encoding::Mach => Phase { m: 4, r: 0 },
+        Encoding::CdrBig | Encoding::CdrLittle => Phase { m: 1, r: 0 },
+    }
+}
+
+/// The code that receives the values of a node over an encoding: inlined, its rows as blocks, with one test and one
+/// take of what stands together.
 pub(crate) fn receiving(
     alloc: Global,
     enc: Encoding,
@@ -26,7 +42,8 @@ pub(crate) fn receiving(
 {
     mint.types_are_sound();
     let flat = inline_recv(alloc, subs, id)?;
-    rows_recv(alloc, enc, &flat, mint, id)
+    let rowed = rows_recv(alloc, enc, &flat, mint, id)?;
+    chunk_recv(alloc, &rowed, phase_of(enc))
 }
 
 /// The same over another encoding, where there is one.

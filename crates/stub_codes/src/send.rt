@@ -8,6 +8,7 @@ ghost use Rattle.raw_buf.specs.Buf.{none, NoneFell};
 ghost use Rattle.cast_stub.specs.Meaning.{meaning, cost, AreCovered};
 ghost use Rattle.cast_stub.specs.Subs.{sent_steps};
 ghost use Rattle.stub_machine.specs.Sending.{paid, IsLong};
+ghost use Rattle.stub_codes.specs.Backs.{IsMinorOver};
 ghost use Rattle.stub_codes.specs.Messages.{request_type, message};
 ghost use Rattle.stub_codes.specs.Replies.{HasArm, arm_type, arm_message};
 ghost use Rattle.stub_codes.specs.Stubs.{sent_cost, reply_cost, IsCoveredReply, IsCoveredRequest, IsSparingReply, IsSparingRequest};
@@ -33,9 +34,11 @@ impl Codes {
         requires op { op < length self.now.binding.ops }
         requires typed { IsWellTyped (request_type self.now.binding op) (seen value.now) }
         // What `Ok` holds.
-        ensures ok { OnOk result (buf.new.done ≡ message self.now.binding op head.now (seen value.now)) }
+        ensures ok { OnOk result
+            (buf.new.done ≡ message self.now.binding self.now.minor op head.now (seen value.now)) }
         ensures short { OnOk result
-            (length (message self.now.binding op head.now (seen value.now)) ≤ longest_message) }
+            (length (message self.now.binding self.now.minor op head.now (seen value.now))
+            ≤ longest_message) }
         ensures tally { OnOk result
             (option_map (paid none) (sent_cost self.now.stubs op head.now (seen value.now))
             ≡ Some buf.new.tally) }
@@ -47,7 +50,8 @@ impl Codes {
         ensures sparing { IsSparingRequest self.now op head.now (seen value.now) }
         // When each error comes.
         ensures long { (result ≡ Err SendErr.Long)
-            → longest_message < length (message self.now.binding op head.now (seen value.now)) }
+            → longest_message
+            < length (message self.now.binding self.now.minor op head.now (seen value.now)) }
         // What stays the same.
         ensures err { OnErr result (buf.new.done ≡ []) }
         ensures stands { NoneFell buf.old.spent buf.new.spent }
@@ -56,12 +60,13 @@ impl Codes {
         run_from_front(&self.stub(op).send, head, value, buf)
     }
 
-    /// Makes the message of a reply with an arm's value in a buffer by the code of the arm, whatever the buffer held;
-    /// where there is none, the buffer is empty. What the buffer spent is kept.
+    /// Makes the message of a reply with an arm's value, in a version, in a buffer by the code of the arm, whatever the
+    /// buffer held; where there is none, the buffer is empty. What the buffer spent is kept.
     pub fn reply(
         &self,
         op: u32,
         arm: u32,
+        minor: u8,
         head: &Head,
         value: &Value,
         buf: &mut SendBuf,
@@ -69,30 +74,31 @@ impl Codes {
         // What is sent.
         requires op { op < length self.now.binding.ops }
         requires arm { HasArm self.now.binding op arm }
+        requires minor { IsMinorOver self.now.binding.back minor }
         requires typed { IsWellTyped (arm_type self.now.binding op arm) (seen value.now) }
         // What `Ok` holds.
         ensures ok { OnOk result
-            (buf.new.done ≡ arm_message self.now.binding op arm head.now (seen value.now)) }
+            (buf.new.done ≡ arm_message self.now.binding minor op arm head.now (seen value.now)) }
         ensures short { OnOk result
-            (length (arm_message self.now.binding op arm head.now (seen value.now)) ≤ longest_message) }
+            (length (arm_message self.now.binding minor op arm head.now (seen value.now)) ≤ longest_message) }
         ensures tally { OnOk result
-            (option_map (paid none) (reply_cost self.now.stubs op arm head.now (seen value.now))
+            (option_map (paid none) (reply_cost self.now.stubs op arm minor head.now (seen value.now))
             ≡ Some buf.new.tally) }
         ensures spent { OnOk result
-            (option_map (paid buf.old.spent) (reply_cost self.now.stubs op arm head.now (seen value.now))
+            (option_map (paid buf.old.spent) (reply_cost self.now.stubs op arm minor head.now (seen value.now))
             ≡ Some buf.new.spent) }
         // What its code does.
-        ensures covered { IsCoveredReply self.now op arm head.now (seen value.now) }
-        ensures sparing { IsSparingReply self.now op arm head.now (seen value.now) }
+        ensures covered { IsCoveredReply self.now op arm minor head.now (seen value.now) }
+        ensures sparing { IsSparingReply self.now op arm minor head.now (seen value.now) }
         // When each error comes.
         ensures long { (result ≡ Err SendErr.Long)
-            → longest_message < length (arm_message self.now.binding op arm head.now (seen value.now)) }
+            → longest_message < length (arm_message self.now.binding minor op arm head.now (seen value.now)) }
         // What stays the same.
         ensures err { OnErr result (buf.new.done ≡ []) }
         ensures stands { NoneFell buf.old.spent buf.new.spent }
     {
         numbers_are_words(head);
-        run_from_front(self.reply_code(op, arm), head, value, buf)
+        run_from_front(self.reply_code(op, arm, minor), head, value, buf)
     }
 }
 

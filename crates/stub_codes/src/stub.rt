@@ -1,5 +1,8 @@
 //! The code of an operation.
 
+ghost use Rattle.std.specs.Prelude.{◌≡◌};
+ghost use Rattle.stub_codes.specs.Stubs.{replies_in};
+
 use cast_stub::{RecvCode, SendCode};
 use kit_base::Listed;
 
@@ -14,6 +17,21 @@ pub struct Stub {
     pub other: Option<RecvCode>,
     /// The codes that send its replies: that of arm 0, the answer, and that of arm k, the k-th exception, at place k.
     pub replies: Listed<SendCode>,
+    /// The codes that send them in version 1.2 of GIOP, which CDR alone has.
+    pub later: Listed<SendCode>,
+}
+
+impl Stub {
+    /// The codes that send the replies in a version, by its minor number.
+    pub fn replies_in(&self, minor: u8) -> &Listed<SendCode>
+        ensures { result.now ≡ replies_in self.now minor }
+    {
+        if minor == 0 {
+            &self.replies
+        } else {
+            &self.later
+        }
+    }
 }
 
 /// The codes of operations, in their order.

@@ -18,3 +18,7 @@ pub mod Cutting
 pub mod Gathering
 -- * What `next` answers, by what stands first
 pub mod Answering
+-- * What a reader has given and keeps, from one read to the next
+pub mod Stepping
+-- The parts of a stream, by the messages that were given and by what is kept
+pub mod Parting

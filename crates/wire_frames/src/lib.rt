@@ -9,6 +9,8 @@ mod frames;
 mod head;
 mod joining;
 mod laws;
+mod messages;
+mod taking;
 
 pub use frames::{FrameErr, Frames};
 pub use head::frame_head;
@@ -16,3 +18,4 @@ pub use laws::{
     cuts_go_on, faults_stay, first_stays, found_are_frames, frames_are_cut, frames_are_found,
     pieces_are_cut,
 };
+pub use messages::{Messages, Part};

@@ -9,20 +9,24 @@ use Rattle.back_cdr.proofs.leads.lead_reply.Goals as goal
 
 pub code_of-requires-clause-many : goal.code_of-requires-clause-many
 code_of-requires-clause-many c =
-    rw (c.as_slice.ensures, c.in_ok-octets.ensures)
-    (reply_long c.sent_order-order.result (target_of c.args.bound.now c.args.op) c.args.arm)
+    let t = target_of c.args.bound.now c.args.op in
+    rw (c.as_slice.ensures, c.in_ok-octets.ensures, c.id_place.ensures.value)
+    (reply_long c.args.minor c.sent_order-order.result t c.args.arm)
 
 pub code_of-requires-clause-few : goal.code_of-requires-clause-few
 code_of-requires-clause-few c =
+    let t = target_of c.args.bound.now c.args.op in
     rw (c.as_slice.ensures, c.in_ok-octets.ensures)
-    (reply_few c.sent_order-order.result (target_of c.args.bound.now c.args.op) c.args.arm 0 (c.names_are_short.ensures c.args.op))
+    (reply_few c.args.minor c.sent_order-order.result t c.args.arm 0 (c.names_are_short.ensures c.args.op))
 
 pub returns-clause-means : goal.returns-clause-means
 returns-clause-means c =
-    let same : (id : ℕ) → with_id c.sent_order-order.result c.as_slice.result.now id
-    ≡ reply_lead (order_of c.args.bound.now.back) (target_of c.args.bound.now c.args.op) c.args.arm id =
+    let t = target_of c.args.bound.now c.args.op in
+    let r = order_of c.args.bound.now.back in
+    let same : (id : ℕ) → with_id c.sent_order-order.result c.id_place.result c.as_slice.result.now id
+    ≡ reply_lead c.args.minor r t c.args.arm id =
     λ id.
-    rw (c.as_slice.ensures, c.in_ok-octets.ensures, c.sent_order-order.ensures)
-    (reply_put (order_of c.args.bound.now.back) (target_of c.args.bound.now c.args.op) c.args.arm id) in
-    leads_along c.code_of.result (with_id c.sent_order-order.result c.as_slice.result.now)
-    (reply_lead (order_of c.args.bound.now.back) (target_of c.args.bound.now c.args.op) c.args.arm) same c.code_of.ensures.means
+    rw (c.as_slice.ensures, c.in_ok-octets.ensures, c.id_place.ensures.value, c.sent_order-order.ensures)
+    (reply_put c.args.minor r t c.args.arm id) in
+    leads_along c.code_of.result (with_id c.sent_order-order.result c.id_place.result c.as_slice.result.now)
+    (reply_lead c.args.minor r t c.args.arm) same c.code_of.ensures.means

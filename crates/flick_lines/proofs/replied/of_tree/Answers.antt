@@ -9,14 +9,16 @@ use Rattle.flick_lines.proofs.replied.of_tree.Goals as goal
 
 pub returns-in-Ok-clause-value : goal.returns-in-Ok-clause-value
 returns-in-Ok-clause-value c =
-    if-ok _ _ _ (of-value (reply_digits c.args.engine.now.binding) _ c.in-Ok.record (rw c.bound.ensures.value at c.in-Ok.ensures.comes))
+    if-ok _ _ _
+    (of-value (reply_digits c.args.engine.now.binding c.args.engine.now.minor) _ c.in-Ok.record
+    (rw c.bound.ensures.value at c.in-Ok.ensures.comes))
     c.digits_of.ensures.value
 
 pub returns-in-Err-clause-value : goal.returns-in-Err-clause-value
 returns-in-Err-clause-value c =
     let b = c.args.engine.now.binding in
     if-ok-and _ _ _ _
-    (refused-at reply_of (reply_digits b) b c.bound.result.now (view c.args.json.now) c.in-Err.refusal
+    (refused-at reply_of (reply_digits b c.args.engine.now.minor) b c.bound.result.now (view c.args.json.now) c.in-Err.refusal
     c.bound.ensures.value c.in-Err.ensures.comes)
     c.refused.ensures.reported c.refused.ensures.memory
 

@@ -5,8 +5,8 @@ use Rattle.flick_serve.proofs.serving.of_line.Goals as goal
 
 pub returns-in-Ok-clause-value : goal.returns-in-Ok-clause-value
 returns-in-Ok-clause-value c =
-    digits_answer c.args.engine.now.binding (answer_at c.args.kept.now) c.args.line.now c.in-Ok.message.items c.as_slice.result.now
-    c.of_message.result c.in-Ok.ensures.ok c.as_slice.ensures.value c.of_message.ensures.value
+    digits_answer c.args.engine.now.binding c.args.engine.now.minor (answer_at c.args.kept.now) c.args.line.now
+    c.in-Ok.message.items c.as_slice.result.now c.of_message.result c.in-Ok.ensures.ok c.as_slice.ensures.value c.of_message.ensures.value
 
 pub returns-in-Ok-clause-paid : goal.returns-in-Ok-clause-paid
 returns-in-Ok-clause-paid c =

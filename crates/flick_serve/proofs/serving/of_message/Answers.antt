@@ -15,10 +15,10 @@ returns-in-Reply-clause-value c =
     let work = gives (λ op request. answer_at c.args.kept.now op) in
     let octets = c.serve.new.buf.done in
     let message = ap (λ (v : View). v.octets) c.new-view.ensures in
-    let replied = subst (λ (s : Served). Serves b work c.new-view.result.octets (reply_in s octets)) c.in-Reply.is
+    let replied = subst (λ (s : Served). Serves b c.args.engine.now.minor work c.new-view.result.octets (reply_in s octets)) c.in-Reply.is
     c.in_ok-served.ensures.serves in
-    let serves = subst (λ (o : List ℕ). Serves b work o (Some octets)) message replied in
-    reply_answer b (answer_at c.args.kept.now) c.args.message.now octets c.digits.result serves
+    let serves = subst (λ (o : List ℕ). Serves b c.args.engine.now.minor work o (Some octets)) message replied in
+    reply_answer b c.args.engine.now.minor (answer_at c.args.kept.now) c.args.message.now octets c.digits.result serves
     (subst (λ (o : List ℕ). IfOk c.digits.result (λ a. a ≡ encode_lower o)) c.octets.ensures c.digits.ensures)
 
 pub returns-in-Reply-clause-paid : goal.returns-in-Reply-clause-paid

@@ -9,7 +9,7 @@ pub returns-clause-value : goal.returns-clause-value
 returns-clause-value c =
     let same = c.ops.ensures.value ∙ ap (λ (b : Binding). b.ops) c.bound.ensures.value in
     line_same c.line-2.result _ _
-    (some_messages c.args.engine.now.binding c.args.number c.args.many c.in_ok-sums.sums
+    (some_messages c.args.engine.now.binding c.args.engine.now.minor c.args.number c.args.many c.in_ok-sums.sums
     (λ none. c.if-len-eq0.false (c.len.ensures ∙ ap length same ∙ none)) c.in_ok-sums.ensures.sums) c.line-2.ensures
 
 pub returns-then-len-eq0-clause-sends : goal.returns-then-len-eq0-clause-sends

@@ -7,7 +7,7 @@ use Rattle.flick_texts.proofs.made.sums_of.Goals as goal
 
 pub loop-i-preserved : goal.loop-i-preserved
 loop-i-preserved c =
-    let message_of = made_message c.args.engine.now.binding c.args.number in
+    let message_of = made_message c.args.engine.now.binding c.args.engine.now.minor c.args.number in
     let m = message_of c.loop-i.i in
     let made = made_as (is_within c.in_ok-trip.trip) c.is_within.result m c.make_message.new.buf.done c.octets.result.now
     c.is_within.ensures c.octets.ensures c.in_ok-trip.ensures.trip.made in

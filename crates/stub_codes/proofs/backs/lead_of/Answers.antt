@@ -1,17 +1,20 @@
 use Rattle.std.proofs.Common.{sym, subst, ◌∙◌}
 use Rattle.back_cdr.specs.Targets.{IsCdr}
-use Rattle.stub_codes.proofs.Leading.{either_cdr, xdr_lead, cdr_lead, mach_lead}
+use Rattle.stub_codes.proofs.Leading.{either_cdr, minor_of, xdr_lead, cdr_lead, mach_lead}
 use Rattle.stub_codes.proofs.backs.lead_of.Goals as goal
+
+pub lead_call-requires-in-CdrBig-clause-minor : goal.lead_call-requires-in-CdrBig-clause-minor
+lead_call-requires-in-CdrBig-clause-minor c = minor_of c.args.bound.now.back c.args.minor c.requires.minor
 
 pub returns-in-Xdr-clause-means : goal.returns-in-Xdr-clause-means
 returns-in-Xdr-clause-means c =
-    xdr_lead c.args.bound.now c.args.op c.lead_call.result (sym c.back.ensures ∙ c.in-Xdr.is) c.lead_call.ensures.means
+    xdr_lead c.args.bound.now c.args.minor c.args.op c.lead_call.result (sym c.back.ensures ∙ c.in-Xdr.is) c.lead_call.ensures.means
 
 pub returns-in-CdrBig-clause-means : goal.returns-in-CdrBig-clause-means
 returns-in-CdrBig-clause-means c =
     let cdr = subst IsCdr c.back.ensures (either_cdr c.back.result c.in-CdrBig.is) in
-    cdr_lead c.args.bound.now c.args.op c.lead_call-in-CdrBig.result cdr c.lead_call-in-CdrBig.ensures.means
+    cdr_lead c.args.bound.now c.args.minor c.args.op c.lead_call-in-CdrBig.result cdr c.lead_call-in-CdrBig.ensures.means
 
 pub returns-in-Mach-clause-means : goal.returns-in-Mach-clause-means
 returns-in-Mach-clause-means c =
-    mach_lead c.args.bound.now c.args.op c.lead_call-in-Mach.result (sym c.back.ensures ∙ c.in-Mach.is) c.lead_call-in-Mach.ensures.means
+    mach_lead c.args.bound.now c.args.minor c.args.op c.lead_call-in-Mach.result (sym c.back.ensures ∙ c.in-Mach.is) c.lead_call-in-Mach.ensures.means

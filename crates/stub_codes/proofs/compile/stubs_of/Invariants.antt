@@ -3,4 +3,4 @@ use Rattle.stub_codes.specs.Stubs.{AreStubs}
 use Rattle.stub_codes.proofs.compile.stubs_of.Given as goal
 
 abbrev pub invariant-loop-i : goal.invariant-loop-i
-invariant-loop-i l = record { many : length l.stubs ≡ l.i; each : AreStubs l.bound l.stubs }
+invariant-loop-i l = record { many : length l.stubs ≡ l.i; each : AreStubs l.bound l.minor l.stubs }

@@ -1,27 +1,19 @@
-use Rattle.mint.specs.Values.{seen}
-use Rattle.flick_engine.proofs.Arming.{covered-as, sparing-as}
 use Rattle.flick_engine.proofs.engine.Engine.marshal_reply.Goals as goal
 
-pub reply-requires-clause-arm : goal.reply-requires-clause-arm
-reply-requires-clause-arm c = rw c.stubs.ensures c.reply_arm-arm.ensures.there
+pub returns-clause-ok : goal.returns-clause-ok
+returns-clause-ok c = rw (c.minor.ensures.value) at c.reply_in_version.ensures.ok
 
-pub reply-requires-clause-typed : goal.reply-requires-clause-typed
-reply-requires-clause-typed c = rw c.stubs.ensures c.reply_arm-arm.ensures.typed
+pub returns-clause-short : goal.returns-clause-short
+returns-clause-short c = rw (c.minor.ensures.value) at c.reply_in_version.ensures.short
 
-pub returns-in-Ok-clause-covered : goal.returns-in-Ok-clause-covered
-returns-in-Ok-clause-covered c = covered-as _ _ _ _ _ _ _ c.stubs.ensures c.reply_arm-arm.ensures.is c.reply.ensures.covered
+pub returns-clause-cost : goal.returns-clause-cost
+returns-clause-cost c = rw (c.minor.ensures.value) at c.reply_in_version.ensures.cost
 
-pub returns-in-Ok-clause-sparing : goal.returns-in-Ok-clause-sparing
-returns-in-Ok-clause-sparing c = sparing-as _ _ _ _ _ _ _ c.stubs.ensures c.reply_arm-arm.ensures.is c.reply.ensures.sparing
+pub returns-clause-covered : goal.returns-clause-covered
+returns-clause-covered c = rw (c.minor.ensures.value) at c.reply_in_version.ensures.covered
 
-pub returns-in-Err-Long-clause-covered : goal.returns-in-Err-Long-clause-covered
-returns-in-Err-Long-clause-covered c = covered-as _ _ _ _ _ _ _ c.stubs.ensures c.reply_arm-arm.ensures.is c.reply.ensures.covered
+pub returns-clause-sparing : goal.returns-clause-sparing
+returns-clause-sparing c = rw (c.minor.ensures.value) at c.reply_in_version.ensures.sparing
 
-pub returns-in-Err-Long-clause-sparing : goal.returns-in-Err-Long-clause-sparing
-returns-in-Err-Long-clause-sparing c = sparing-as _ _ _ _ _ _ _ c.stubs.ensures c.reply_arm-arm.ensures.is c.reply.ensures.sparing
-
-pub returns-in-Err-NoMemory-clause-covered : goal.returns-in-Err-NoMemory-clause-covered
-returns-in-Err-NoMemory-clause-covered c = covered-as _ _ _ _ _ _ _ c.stubs.ensures c.reply_arm-arm.ensures.is c.reply.ensures.covered
-
-pub returns-in-Err-NoMemory-clause-sparing : goal.returns-in-Err-NoMemory-clause-sparing
-returns-in-Err-NoMemory-clause-sparing c = sparing-as _ _ _ _ _ _ _ c.stubs.ensures c.reply_arm-arm.ensures.is c.reply.ensures.sparing
+pub returns-clause-long : goal.returns-clause-long
+returns-clause-long c = rw (c.minor.ensures.value) at c.reply_in_version.ensures.long

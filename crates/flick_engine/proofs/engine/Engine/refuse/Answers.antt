@@ -1,9 +1,19 @@
 use Rattle.std.proofs.Common.{Some, ap, sym, ◌∙◌}
 use Rattle.pres.specs.Bindings.{Binding}
 use Rattle.flick_engine.specs.Refusals.{reply_head}
-use Rattle.flick_engine.proofs.Replying.{mach_refuses}
+use Rattle.flick_engine.proofs.Replying.{mach_refuses, minor_over}
 use Rattle.flick_engine.proofs.Searching.{mach_call}
 use Rattle.flick_engine.proofs.engine.Engine.refuse.Goals as goal
+
+pub put_refusal-requires-in-CdrBig-clause-minor : goal.put_refusal-requires-in-CdrBig-clause-minor
+put_refusal-requires-in-CdrBig-clause-minor c =
+    minor_over c.args.self.now.binding.back c.args.called.now.minor
+    (c.bodies_are_taken.ensures c.args.self.now.binding c.args.message.now c.args.called.now c.requires.begins).2
+
+pub put_refusal-requires-in-CdrLittle-clause-minor : goal.put_refusal-requires-in-CdrLittle-clause-minor
+put_refusal-requires-in-CdrLittle-clause-minor c =
+    minor_over c.args.self.now.binding.back c.args.called.now.minor
+    (c.bodies_are_taken.ensures c.args.self.now.binding c.args.message.now c.args.called.now c.requires.begins).2
 
 pub unreachable-requires : goal.unreachable-requires
 unreachable-requires c =
@@ -18,5 +28,5 @@ returns-in-Ok-clause-ok c =
     let begins = (c.read_call.ensures.spells c.in-Ok.call).0 c.in-Ok.is in
     let ok = rw c.reply_head-head.ensures at c.put_refusal-in-Mach.ensures.ok in
     let head = reply_head c.args.self.now.binding.back c.args.called.now.head in
-    mach_refuses c.put_refusal-in-Mach.result c.args.self.now.binding c.args.message.now head c.args.why.now
+    mach_refuses c.put_refusal-in-Mach.result c.args.self.now.binding c.args.called.now.minor c.args.message.now head c.args.why.now
     (Some c.put_refusal-in-Mach.new.buf.done) c.in-Ok.call is begins ok

@@ -6,8 +6,8 @@ use Rattle.raw_buf.proofs.buffer.SendBuf.store_word.Goals as goal
 
 pub returns-clause-front : goal.returns-clause-front
 returns-clause-front c =
-    let memory = c.self.inside.memory.items in
+    let memory = c.self.inside.memory in
     let within : c.args.off + c.args.width ≤ c.self.inside.ahead = grind (arith, common_steps) in
     rw (← c.self.view_is, c.write_word.ensures.value)
-    (front-written memory (in_order c.args.order c.args.width c.args.v) c.self.inside.len c.self.inside.ahead c.args.off c.self.invariant
+    (front-written memory (in_order c.args.order c.args.width c.args.v) c.self.inside.len c.self.inside.ahead c.args.off c.self.invariant.0
     (omega (arith, within, c.write_word.ensures.width)))

@@ -19,12 +19,12 @@ returns-clause-short c =
 
 pub returns-clause-tally : goal.returns-clause-tally
 returns-clause-tally c =
-    reply_paid c.run_from_front.result c.args.self.now.stubs c.args.op c.args.arm c.reply_code.result.now c.args.head.now
+    reply_paid c.run_from_front.result c.args.self.now.stubs c.args.op c.args.arm c.args.minor c.reply_code.result.now c.args.head.now
     (seen c.args.value.now) _ _ c.reply_code.ensures.found c.run_from_front.ensures.tally
 
 pub returns-clause-spent : goal.returns-clause-spent
 returns-clause-spent c =
-    reply_paid c.run_from_front.result c.args.self.now.stubs c.args.op c.args.arm c.reply_code.result.now c.args.head.now
+    reply_paid c.run_from_front.result c.args.self.now.stubs c.args.op c.args.arm c.args.minor c.reply_code.result.now c.args.head.now
     (seen c.args.value.now) _ _ c.reply_code.ensures.found c.run_from_front.ensures.spent
 
 pub returns-clause-long : goal.returns-clause-long
@@ -34,11 +34,11 @@ returns-clause-long c =
 
 pub returns-clause-covered : goal.returns-clause-covered
 returns-clause-covered c =
-    reply_covered c.args.self.now.stubs c.args.op c.args.arm c.reply_code.result.now c.args.head.now (seen c.args.value.now)
+    reply_covered c.args.self.now.stubs c.args.op c.args.arm c.args.minor c.reply_code.result.now c.args.head.now (seen c.args.value.now)
     c.reply_code.ensures.found
     (c.reply_code.ensures.sends.covered c.args.head.now (seen c.args.value.now) c.numbers_are_words.ensures c.requires.typed)
 
 pub returns-clause-sparing : goal.returns-clause-sparing
 returns-clause-sparing c =
-    reply_costs c.args.self.now c.args.op c.args.arm c.reply_code.result.now c.args.head.now (seen c.args.value.now)
+    reply_costs c.args.self.now c.args.op c.args.arm c.args.minor c.reply_code.result.now c.args.head.now (seen c.args.value.now)
     c.reply_code.ensures.found c.reply_code.ensures.sends c.numbers_are_words.ensures c.requires.typed
