@@ -24,7 +24,8 @@ pub read_back : IsReadBack
 read_back b m op head v c says named typed short =
     let is = received b m op head c says in
     let body = send (encoding b.back) (request_type b op) (length (lead b m op head)) v in
-    let hollow : MayFollow (has_body b op) body = λ none. nothing_sent (encoding b.back) (request_type b op) none (length (lead b m op head)) v in
+    let hollow : MayFollow (has_body b op) body =
+    λ none. nothing_sent (encoding b.back) (request_type b op) none (length (lead b m op head)) v in
     let lead_long = long_lead b.back b m op head in
     let same : length (message b m op head v) ≡ length (lead b m op head ++ body) =
     same_length b.back (lead b m op head ++ body) (omega (arith, lead_long, length-append (lead b m op head) body)) in (

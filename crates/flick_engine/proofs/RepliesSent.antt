@@ -136,5 +136,6 @@ received_over back.Mach b m op arm head t (ports, (word_fits, few), is) =
       encoding = ap (λ (x : Heard). x.encoding) (sym is);
     }
 
-pub reply_received : (b : Binding) (m op arm : ℕ) (head : Head) (t : Heard) → Tells b m op arm head t → IsReplyReceived b.back b m op arm head t
+pub reply_received : (b : Binding) (m op arm : ℕ) (head : Head) (t : Heard) → Tells b m op arm head t
+    → IsReplyReceived b.back b m op arm head t
 reply_received b m op arm head t tells = received_over b.back b m op arm head t tells

@@ -67,7 +67,8 @@ pub stopped_at : {E : Type 0} (x : Coded) (work : ℕ → Val → Val → Type 0
 stopped_at x work o d spent new (Ok s) e stops = λ c starts is. absurd ((one_head x.binding o).not_both c e starts stops)
 stopped_at x work o d spent new (Err n) e stops = tt
 
-module _ (x : Coded) (m : ℕ) (work : ℕ → Val → Val → Type 0) (o : List ℕ) (head : Head) (q : Request) (w : Val) (spent : Tally) (new : Buf) where
+module _ (x : Coded) (m : ℕ) (work : ℕ → Val → Val → Type 0) (o : List ℕ) (head : Head) (q : Request) (w : Val)
+    (spent : Tally) (new : Buf) where
   -- the reply of a request was sent
   pub sent_at : work q.op (asked q).value w → IsShort (reply_message x.binding m q.op head w)
       → new.done ≡ reply_message x.binding m q.op head w

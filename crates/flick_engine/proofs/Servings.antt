@@ -131,7 +131,8 @@ one_refusal back.Mach m o head w x y (c, begins, is) (d, begins', is') =
     sym is ∙ rw same is'
 
 module _ (b : Binding) (work : ℕ → Val → Val) (o : List ℕ) where
-  refused_once : (m : ℕ) (head : Head) (e : MessageErr) (x y : Option (List ℕ)) → RefusesCall b m o head e x → RefusesCall b m o head e y → x ≡ y
+  refused_once : (m : ℕ) (head : Head) (e : MessageErr) (x y : Option (List ℕ)) → RefusesCall b m o head e x
+      → RefusesCall b m o head e y → x ≡ y
   refused_once m head e x y (w, is, refuses) (u, is', refuses') =
       let same : u ≡ w = one_reason b o e u w is' is in
       one_refusal b.back m o head w x y refuses (subst (λ (z : Refusal). RefusesOver b.back m o head z y) same refuses')

@@ -70,7 +70,8 @@ impl Engine {
         // What `Ok` holds.
         ensures ok { OnOk result (buf.new.done
             ≡ reply_message self.now.binding minor op head.now (seen value.now)) }
-        ensures short { OnOk result (IsShort (reply_message self.now.binding minor op head.now (seen value.now))) }
+        ensures short { OnOk result
+            (IsShort (reply_message self.now.binding minor op head.now (seen value.now))) }
         ensures cost { OnOk result
             (IsAnsweredByCode self.now.stubs minor op head.now (seen value.now) buf.old.spent buf.new) }
         // What its code does.

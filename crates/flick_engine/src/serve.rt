@@ -50,7 +50,8 @@ impl Engine {
         requires start { view.old.pos ≡ 0 }
         // What is answered.
         ensures serves { IfOk result (λ s.
-            Serves self.now.binding self.now.minor (S.Answers skeleton.now) view.old.octets (reply_in s buf.new.done)) }
+            Serves self.now.binding self.now.minor (S.Answers skeleton.now) view.old.octets
+            (reply_in s buf.new.done)) }
         ensures silent { (result ≡ Ok Served.Silent) → buf.new.done ≡ [] }
         ensures err { OnErr result (buf.new.done ≡ []) }
         // What it costs.
@@ -87,7 +88,8 @@ impl Engine {
         requires empty { buf.old.done ≡ [] }
         // What is answered, and what it costs.
         ensures serves { IfOk result (λ s.
-            Serves self.now.binding self.now.minor (S.Answers skeleton.now) message.now (reply_in s buf.new.done)) }
+            Serves self.now.binding self.now.minor (S.Answers skeleton.now) message.now
+            (reply_in s buf.new.done)) }
         ensures silent { (result ≡ Ok Served.Silent) → buf.new.done ≡ [] }
         ensures cost { IfOk result (λ s. ServesByCode self.now (S.Answers skeleton.now)
             message.now (reply_in s buf.new.done) buf.old.spent buf.new) }

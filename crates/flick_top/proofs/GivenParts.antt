@@ -120,7 +120,12 @@ messages_begun : (c : Cutting) (before after : Input) (t : Reader) (given : List
 messages_begun c before after t given h =
     let (fed, ms, is, consumed, begun, count) = h.messages in
     let at : Stood c t before after given =
-    record { fed = fed; ms = ms; is = is; reached = record { cut = h.cut; consumed = consumed; given = begun; count = count; most = h.most } } in
+    record {
+      fed = fed;
+      ms = ms;
+      is = is;
+      reached = record { cut = h.cut; consumed = consumed; given = begun; count = count; most = h.most };
+    } in
     record { begins = begins_so c t before after given at; taken = within_so c t before after given at h.within }
 
 ended_begun : (c : Cutting) (before after : Input) (given : List Item) → HasEnded c before after given → HasBegun c before after given

@@ -46,7 +46,8 @@ front-failed c before given item f held held' held'' octets input same begins re
     let all : answers f (c.whole input) ≡ answers f (given ++ item ∷ []) ++ answers f behind =
     ap (answers f) split ∙ flat_map-append (λ (i : Item). (f i).octets) (given ++ item ∷ []) behind in
     let here : answers f (given ++ item ∷ []) ≡ (answers f given ++ front) ++ rest =
-    answers-push f given item ∙ ap (λ (l : List ℕ). answers f given ++ l) (sym same ∙ e) ∙ sym (append_assoc (answers f given) front rest) in (
+    answers-push f given item ∙ ap (λ (l : List ℕ). answers f given ++ l) (sym same ∙ e)
+    ∙ sym (append_assoc (answers f given) front rest) in (
       answers f given ++ front,
       rest ++ answers f behind,
       all ∙ ap (λ (l : List ℕ). l ++ answers f behind) here ∙ append_assoc (answers f given ++ front) rest (answers f behind),

@@ -68,7 +68,8 @@ laid_placed : (r : Order) (n : ℕ) → IsPlace (laid r) n
 laid_placed Big n = tt
 laid_placed Little n = tt
 
-cdr_taken : (k : Back) → IsCdr k → ((r : Order) → Takes k (laid r)) → (b : Binding) (o : List ℕ) (c : Called) → cdr_seeking.Calls b o c → IsTaken k c
+cdr_taken : (k : Back) → IsCdr k → ((r : Order) → Takes k (laid r)) → (b : Binding) (o : List ℕ) (c : Called)
+    → cdr_seeking.Calls b o c → IsTaken k c
 cdr_taken k cdr takes b o c (reported, begins, same) =
     let lies : laid reported.head.order ≡ c.encoding = ap (λ (t : Called). t.encoding) same in (
       subst (λ (e : Encoding). Takes k e) lies (takes reported.head.order),

@@ -85,7 +85,8 @@ impl Codes {
             (option_map (paid none) (reply_cost self.now.stubs op arm minor head.now (seen value.now))
             ≡ Some buf.new.tally) }
         ensures spent { OnOk result
-            (option_map (paid buf.old.spent) (reply_cost self.now.stubs op arm minor head.now (seen value.now))
+            (option_map (paid buf.old.spent)
+            (reply_cost self.now.stubs op arm minor head.now (seen value.now))
             ≡ Some buf.new.spent) }
         // What its code does.
         ensures covered { IsCoveredReply self.now op arm minor head.now (seen value.now) }

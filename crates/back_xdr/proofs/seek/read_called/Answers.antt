@@ -9,7 +9,8 @@ returns-in-Ok-clause-begins c =
     let call = c.in-Ok.call in (
       call,
       begins,
-      ap (λ (n : Naming). record { naming = n; head = call.head; encoding = encoding; used = call.used; minor = 0 }) (sym c.named.ensures.value),
+      ap (λ (n : Naming). record { naming = n; head = call.head; encoding = encoding; used = call.used; minor = 0 })
+          (sym c.named.ensures.value),
     )
 
 pub returns-in-Err-clause-stops : goal.returns-in-Err-clause-stops

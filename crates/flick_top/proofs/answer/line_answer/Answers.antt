@@ -19,6 +19,6 @@ returns-in-Long-clause-answers c =
 pub returns-in-Text-clause-answers : goal.returns-in-Text-clause-answers
 returns-in-Text-clause-answers c =
     if-ok-and _ _ _ _
-    (λ sends (a : Answered) h. text-written c.args.job.now c.args.line.now c.as_slice.result.now a.octets a.refused c.args.buf.now c.answer.new.buf
-    (c.in-Text.is ∙ ap Text (sym c.as_slice.ensures)) sends h)
+    (λ sends (a : Answered) h. text-written c.args.job.now c.args.line.now c.as_slice.result.now a.octets a.refused
+    c.args.buf.now c.answer.new.buf (c.in-Text.is ∙ ap Text (sym c.as_slice.ensures)) sends h)
     c.answer.ensures.value c.answer.ensures.sends

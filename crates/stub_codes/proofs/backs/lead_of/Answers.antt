@@ -17,4 +17,5 @@ returns-in-CdrBig-clause-means c =
 
 pub returns-in-Mach-clause-means : goal.returns-in-Mach-clause-means
 returns-in-Mach-clause-means c =
-    mach_lead c.args.bound.now c.args.minor c.args.op c.lead_call-in-Mach.result (sym c.back.ensures ∙ c.in-Mach.is) c.lead_call-in-Mach.ensures.means
+    mach_lead c.args.bound.now c.args.minor c.args.op c.lead_call-in-Mach.result (sym c.back.ensures ∙ c.in-Mach.is)
+    c.lead_call-in-Mach.ensures.means

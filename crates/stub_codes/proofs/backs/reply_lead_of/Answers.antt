@@ -11,7 +11,8 @@ lead_reply-requires-in-CdrBig-clause-minor c = minor_of c.args.bound.now.back c.
 
 pub returns-in-Xdr-clause-means : goal.returns-in-Xdr-clause-means
 returns-in-Xdr-clause-means c =
-    xdr_reply_lead c.args.bound.now c.args.minor c.args.op c.args.arm c.lead_reply.result (sym c.back.ensures ∙ c.in-Xdr.is) c.lead_reply.ensures.means
+    xdr_reply_lead c.args.bound.now c.args.minor c.args.op c.args.arm c.lead_reply.result
+    (sym c.back.ensures ∙ c.in-Xdr.is) c.lead_reply.ensures.means
 
 pub returns-in-CdrBig-clause-means : goal.returns-in-CdrBig-clause-means
 returns-in-CdrBig-clause-means c =

@@ -15,25 +15,29 @@ refuse_call-requires-in-NoOperation-clause-is g c =
 
 pub returns-in-NoInterface-clause-answers : goal.returns-in-NoInterface-clause-answers
 returns-in-NoInterface-clause-answers g c =
-    refused c.args.self.now.binding c.args.self.now.minor (g.S.Skeleton.Answers c.args.skeleton.now) c.args.message.now c.refuse_call.result c.args.called.now
+    refused c.args.self.now.binding c.args.self.now.minor (g.S.Skeleton.Answers c.args.skeleton.now) c.args.message.now
+    c.refuse_call.result c.args.called.now
     err.NoInterface (Some c.refuse_call.new.buf.done) c.refuse_call.ensures.ok c.refuse_call.ensures.there
 
 pub returns-in-NoOperation-clause-answers : goal.returns-in-NoOperation-clause-answers
 returns-in-NoOperation-clause-answers g c =
     let r = c.refuse_call-in-NoOperation in
-    refused c.args.self.now.binding c.args.self.now.minor (g.S.Skeleton.Answers c.args.skeleton.now) c.args.message.now r.result c.args.called.now
+    refused c.args.self.now.binding c.args.self.now.minor (g.S.Skeleton.Answers c.args.skeleton.now) c.args.message.now
+    r.result c.args.called.now
     err.NoOperation (Some r.new.buf.done) r.ensures.ok r.ensures.there
 
 pub returns-in-Ok-clause-answers : goal.returns-in-Ok-clause-answers
 returns-in-Ok-clause-answers g c =
     let r = c.answer_request in
-    requested c.args.self.now.binding c.args.self.now.minor (g.S.Skeleton.Answers c.args.skeleton.now) c.args.message.now r.result c.args.called.now
+    requested c.args.self.now.binding c.args.self.now.minor (g.S.Skeleton.Answers c.args.skeleton.now) c.args.message.now
+    r.result c.args.called.now
     c.in-Ok.request (Some r.new.buf.done) c.in-Ok.ensures.read r.ensures.answers
 
 pub returns-in-Err-clause-answers : goal.returns-in-Err-clause-answers
 returns-in-Err-clause-answers g c =
     let r = c.refuse_call-in-Err in
-    refused c.args.self.now.binding c.args.self.now.minor (g.S.Skeleton.Answers c.args.skeleton.now) c.args.message.now r.result c.args.called.now
+    refused c.args.self.now.binding c.args.self.now.minor (g.S.Skeleton.Answers c.args.skeleton.now) c.args.message.now
+    r.result c.args.called.now
     c.in-Err.fault (Some r.new.buf.done) r.ensures.ok r.ensures.there
 
 pub returns-in-NoInterface-clause-cost : goal.returns-in-NoInterface-clause-cost

@@ -9,7 +9,8 @@ use Rattle.flick_engine.proofs.engine.Engine.answer_giop.Goals as goal
 pub unreachable-requires : goal.unreachable-requires
 unreachable-requires c =
     let r = c.in-Ok-Request in
-    let begins = (r.ensures.spells (requested r.field-0-0 r.field-0-1.now r.field-0-2.now r.field-0-3 r.field-0-4)).0 (ap call_seen r.field-0-is) in
+    let call = requested r.field-0-0 r.field-0-1.now r.field-0-2.now r.field-0-3 r.field-0-4 in
+    let begins = (r.ensures.spells call).0 (ap call_seen r.field-0-is) in
     not_a_request c.args.message.now c.args.fault _ _ _ _ _ c.requires.stops begins
 
 pub returns-then-is_passed_over-clause-serves : goal.returns-then-is_passed_over-clause-serves

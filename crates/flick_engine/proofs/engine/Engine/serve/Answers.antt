@@ -11,7 +11,8 @@ returns-in-Ok-clause-serves g c =
     let work = g.S.Skeleton.Answers c.args.skeleton.now in
     subst
     (λ (o : List ℕ).
-    Serves c.args.self.now.binding c.args.self.now.minor work o (reply_in c.in-Ok.served c.serve_message.new.buf.done)) whole c.in-Ok.ensures.serves
+    Serves c.args.self.now.binding c.args.self.now.minor work o (reply_in c.in-Ok.served c.serve_message.new.buf.done))
+    whole c.in-Ok.ensures.serves
 
 pub returns-in-Ok-clause-cost : goal.returns-in-Ok-clause-cost
 returns-in-Ok-clause-cost g c =
