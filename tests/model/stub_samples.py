@@ -457,7 +457,7 @@ def checked(rng, interfaces):
         start = STARTS[ENCODINGS[back]]
         loops = [Stub("recv", request.name, joined(start, receiving(ENCODINGS[back], request.nodes, request.id, whole=False)), []) for request in requests]
         stubs = [stub for pair in zip(stubs_of(text)[::2], loops) for stub in pair]
-        yield back, "loops", stubs_wrong(rng, back, interfaces, "".join(map(text_of, stubs)))
+        yield back, "loops", stubs_wrong(rng, back, interfaces, "".join(map(text_of, stubs)), few=False)
 
 
 MAKERS = (onc_files, wide_files, long_files, corba_files, mig_files)
