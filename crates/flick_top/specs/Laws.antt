@@ -1,5 +1,5 @@
 -- Laws of what is written.
-use Rattle.std.specs.Prelude.{◌≡◌, ◌⊎◌, ℕ, ◌≤◌, List, length, Option, Some}
+use Rattle.std.specs.Prelude.{◌≡◌, ◌⊎◌, ℕ, ◌≤◌, List, ◌++◌, length, Option, Some}
 use Rattle.std.specs.Io.KnownBytes.{Appends}
 use Rattle.kit_base.specs.Causes.{Rose}
 use Rattle.kit_base.specs.Limits.{most_input}
@@ -64,6 +64,18 @@ OutputsAreWhole = (made : Option Coded) (words : List (List ℕ)) (files : Files
     → Completes left left' (Rose source source') (Rose sink sink') (Rose shelf shelf') status
     → (input : List ℕ) → left ≡ Some input → length input ≤ most_input → NoneRose source source' sink sink' shelf shelf'
     → (status ≡ out_of_memory) ⊎ WritesWhole made words files input held held' status
+
+-- what was appended, and what is lacking of the output
+abbrev pub Begins : Task → Answering → List ℕ → Held → Held → Type 0
+Begins task f input held held' =
+    (begun rest : List ℕ) × ((out_of task f input).octets ≡ begun ++ rest) × Appends held held' begun
+
+-- the clause `work` of `flick` comes to this, whatever the status, for each task to which the words come, and its answers
+abbrev pub OutputsBegin : Type 0
+OutputsBegin = (made : Option Coded) (words : List (List ℕ)) (files : Files) (left left' : Input) (held held' : Held)
+    (source source' status : ℕ) (old new : Buf) → Works made words files left left' source source' held held' old new status
+    → (task : Task) (f : Answering) → IsTask (codes_of made) words files task → AreAnswered task.feed f
+    → (input : List ℕ) → left ≡ Some input → Begins task f input held held'
 
 -- where a file is bound, the work that was done leaves an engine of its unit
 abbrev pub BoundFilesLeaveEngines : Type 0

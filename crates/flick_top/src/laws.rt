@@ -1,6 +1,6 @@
 //! The laws of what is written, each the contract of a function that does nothing.
 
-ghost use Rattle.flick_top.specs.Laws.{BoundFilesLeaveEngines, LinesAreCut, OneOutput, OutputsAreWhole, StreamsAreCut, WordsHaveTasks};
+ghost use Rattle.flick_top.specs.Laws.{BoundFilesLeaveEngines, LinesAreCut, OneOutput, OutputsAreWhole, OutputsBegin, StreamsAreCut, WordsHaveTasks};
 
 /// The words have one output over the files: whatever the task to which they come and the answers to its items, what is
 /// written over an input, and the status, are the same.
@@ -17,6 +17,12 @@ pub fn words_have_tasks()
 /// the clauses `work`, `taken` and `completes` of `flick` come to.
 pub fn outputs_are_whole()
     ensures { OutputsAreWhole }
+{}
+
+/// What was written begins the one output of the words, whatever became of a run: this is what the clause `work` of `flick`
+/// comes to.
+pub fn outputs_begin()
+    ensures { OutputsBegin }
 {}
 
 /// Where the file of a command over a back end is bound, an engine of its unit is left, whatever became of a second file:

@@ -21,6 +21,6 @@ mod turns;
 
 pub use laws::{
     bound_files_leave_engines, lines_are_cut, outputs_are_determined, outputs_are_whole,
-    streams_are_cut, words_have_tasks,
+    outputs_begin, streams_are_cut, words_have_tasks,
 };
 pub use top::flick;
