@@ -43,3 +43,27 @@ fn each_of_16640_names_is_found_by_one_read_a_word(rt: HostRuntime) -> Result<()
     assert!(rt; finds(&demux, b"operation\0\0\0", None, 0));
     Ok(())
 }
+
+/// The names of operations that begin alike.
+fn gets(rt: &HostRuntime) -> Result<Words, NoMemory> {
+    let mut names = Words::new(rt.alloc());
+    names.push(Name::from_slice(rt.alloc(), b"get")?)?;
+    names.push(Name::from_slice(rt.alloc(), b"getx")?)?;
+    names.push(Name::from_slice(rt.alloc(), b"get_x")?)?;
+    names.push(Name::from_slice(rt.alloc(), b"getxy")?)?;
+    Ok(names)
+}
+
+#[test]
+fn names_that_begin_alike_are_found_by_two_reads_at_most(rt: HostRuntime) -> Result<(), Fail> {
+    let names = gets(&rt)?;
+    assert!(rt; names.len() == 4);
+    let demux = Demux::new(rt.alloc(), &names)?;
+    assert!(rt; finds(&demux, b"get", Some(0), 1));
+    assert!(rt; finds(&demux, b"getx", Some(1), 1));
+    assert!(rt; finds(&demux, b"get_x", Some(2), 2));
+    assert!(rt; finds(&demux, b"getxy", Some(3), 2));
+    assert!(rt; finds(&demux, b"ge", None, 0));
+    assert!(rt; finds(&demux, b"getxyz", None, 0));
+    Ok(())
+}
