@@ -36,7 +36,7 @@ pub mod FilesSay
 pub mod TwinTexts
 -- * The words have one output over the files, by induction on the input's items
 pub mod Outputs
--- What was written begins the one output of the words, whatever became of a run
+-- * What was written begins the one output of the words, whatever became of a run
 pub mod Opening
 -- * Which end of the work a status tells
 pub mod Stops
