@@ -13,3 +13,6 @@ mod words;
 
 pub use errors::StubErr;
 pub use stub::{Stub, read_stub};
+
+#[cfg(test)]
+mod tests;
