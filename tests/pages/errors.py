@@ -23,7 +23,8 @@ AT is the place of an octet, counted from 0. LINE is a line of the file and DECL
 """
 # Sentences of what no variant stands for; and what is worth knowing besides.
 SAID = {"! long": "The line is above its limit and was not read, or its message would be above the limit.", "! json": "The line is not JSON.", "! hex": "",
-        "? syntax": "The definition that begins on line LINE has no tree.", "? replies": "Line LINE of the file, counted from 1 over all lines, gives no reply."}
+        "? syntax": "The definition that begins on line LINE has no tree.", "? replies": "Line LINE of the file, counted from 1 over all lines, gives no reply.",
+        "! frame Cut": "The stream ends within a message."}
 BESIDES = {
     "? lex Directive": "`./bring-in` runs `cpp` over the file, and lists each step (`docs/FILES.md`).",
     "? name Unknown": "`./bring-in` declares names of C headers, and moves declarations up (`docs/FILES.md`). In a CORBA file a name of another module wants its scope, as in `M::name`.",
@@ -44,7 +45,7 @@ RECORDS = (("! long", "", "", ""), ("! json", "", "", ""), ("! request", "record
            ("! head", "record", "Head", ""), ("! value", "record", "Shape", ""))
 # The enums of the program, each by its crate and a variant that it has.
 ENUMS = {"lex": ("idl_lex", "OpenComment"), "name": ("aoi", "CaseClash"), "bind": ("pres", "Heavy"), "head": ("wire_def", "Magic"), "body": ("wire_def", "OverBound"),
-         "saying": ("flick_top", "WrongReply"), "record": ("json_shape", "Op"), "message": ("flick_engine", "NoInterface")}
+         "saying": ("flick_top", "WrongReply"), "record": ("json_shape", "Op"), "message": ("flick_engine", "NoInterface"), "frame": ("wire_frames", "TooLong")}
 
 
 def variants(enum):
@@ -239,4 +240,7 @@ def page():
     entries += [("! trailing", "AT", message["Trailing"], refusals("TRAILING"))]
     group(out, page, "A message is refused (`unmarshal`, `unreply`, `serve`)", entries, [
         f"Of a head: {page.causes['refusals', 'HEAD_OTHER']['repair']}"])
+    entries = [(f"! frame {word}", "", doc, page.of_word("frame_cause", word)) for word, doc in variants("frame").items()]
+    entries += [("! frame Cut", "", SAID["! frame Cut"], page.of_word("frame_cause", "Cut"))]
+    group(out, page, "A stream is refused (`unpipe`)", entries, ["It is the last line: nothing more is read. The messages before it are answered."])
     return "\n".join(out) + "\n"

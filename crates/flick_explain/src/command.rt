@@ -18,6 +18,8 @@ pub enum Verb {
     Unreply,
     /// Each request record gave what it costs to send its message.
     Count,
+    /// Each message of a raw stream gave the record of its request.
+    Unpipe,
     /// Each message gave the message of its reply.
     Serve,
     /// The texts of the stub code were written.
@@ -75,7 +77,7 @@ fn is_option(word: &Octets) -> bool {
 /// The same run, with the file that it read, where it reads lines.
 fn read_from<'a>(run: Run<'a>, lines: &'a Octets) -> Option<Run<'a>> {
     match run.verb {
-        Verb::Stubs | Verb::Show | Verb::Make => None,
+        Verb::Unpipe | Verb::Stubs | Verb::Show | Verb::Make => None,
         _ => Some(Run {
             lines: Some(lines.as_slice()),
             ..run
@@ -154,6 +156,7 @@ fn verb_of(word: &[u8]) -> Option<Verb> {
         b"reply" => Some(Verb::Reply),
         b"unreply" => Some(Verb::Unreply),
         b"count" => Some(Verb::Count),
+        b"unpipe" => Some(Verb::Unpipe),
         b"stubs" => Some(Verb::Stubs),
         _ => None,
     }

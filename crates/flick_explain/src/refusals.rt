@@ -41,6 +41,7 @@ impl Refusal<'_> {
             b"request" | b"op" | b"value" => Some(record_cause(verb, self.word)),
             b"head" => Some(head_cause(verb, self.has_kind(), self.kind)),
             b"body" => body_cause(self.kind),
+            b"frame" => frame_cause(self.kind),
             _ => message_cause(self.word),
         }
     }
@@ -267,6 +268,45 @@ fn body_cause(kind: &[u8]) -> Option<Cause> {
         b"BadPad" => Some(BAD_PAD),
         b"BadText" => Some(BAD_TEXT),
         b"BadItem" => Some(BAD_ITEM),
+        _ => None,
+    }
+}
+
+const FRAME_MAGIC: Cause = Cause {
+    what: "",
+    why: "the next twelve octets of the stream do not begin with GIOP.",
+    repair: "see that BACK is the format of the stream, and that nothing stands between its messages.",
+    of_names: false,
+};
+
+const FRAME_SIZE: Cause = Cause {
+    what: "",
+    why: "the next message of the stream says that it is shorter than its header.",
+    repair: "see that BACK is the format of the stream, and that nothing stands between its messages.",
+    of_names: false,
+};
+
+const FRAME_LONG: Cause = Cause {
+    what: "",
+    why: "a header of the stream tells a message of more than 4,194,304 octets.",
+    repair: "see that BACK is the format of the stream; over xdr each record has a mark of four octets.",
+    of_names: false,
+};
+
+const FRAME_CUT: Cause = Cause {
+    what: "",
+    why: "the stream ends within a message.",
+    repair: "wait for the rest of it; over xdr the last fragment of a record has bit 31 in its mark.",
+    of_names: false,
+};
+
+/// What a fault of a stream means.
+fn frame_cause(kind: &[u8]) -> Option<Cause> {
+    match kind {
+        b"Magic" => Some(FRAME_MAGIC),
+        b"Size" => Some(FRAME_SIZE),
+        b"TooLong" => Some(FRAME_LONG),
+        b"Cut" => Some(FRAME_CUT),
         _ => None,
     }
 }

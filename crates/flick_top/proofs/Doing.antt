@@ -1,11 +1,8 @@
 -- What is done of a task, however its work ends.
-use Rattle.std.proofs.Common.{◌≡◌, ◌≢◌, ◌⊎◌, inl, inr, ◌<◌, ℕ, Bool, true, false, List, [], ◌++◌, length, Option, Some, None, refl, sym, ap, ◌∙◌, subst, append_assoc, append-nil, arith}
+use Rattle.std.proofs.Common.{◌≡◌, ◌≢◌, ◌⊎◌, inl, inr, ◌<◌, ℕ, Bool, true, false, List, [], ◌++◌, length, take, Option, Some, None, refl, sym, ap, ◌∙◌, subst, append_assoc, append-nil, arith}
 use Rattle.std.specs.Prelude.{IfSome, if◌then◌else◌}
 use Rattle.std.specs.Io.KnownBytes.{Appends, Consumes, IsAtEnd}
 use Rattle.std.proofs.KnownBytes.{Appends-trans, Consumes-nil}
-use Rattle.kit_base.specs.Limits.{longest_line, most_input}
-use Rattle.kit_base.specs.declared.lines.Line.{Line}
-use Rattle.kit_base.specs.Lines.{State, Advances, KnowsEnd, pending, lines}
 use Rattle.raw_buf.specs.Buf.{Buf}
 use Rattle.stub_codes.specs.Stubs.{Coded, IsCoded}
 use Rattle.flick_lines.specs.Sent.{Sending, IsSpentBy}
@@ -14,13 +11,15 @@ use Rattle.flick_top.specs.declared.job.Job.{Job}
 use Rattle.flick_top.specs.declared.prepared.Prepared.{Prepared}
 use Rattle.flick_top.specs.declared.status.Status.{Status}
 use Rattle.flick_top.specs.declared.status.Status.TheVariants as s
+use Rattle.flick_top.specs.declared.items.Item.{Item}
 use Rattle.flick_top.specs.Answer.{Answering, answers, refuses, sent_for, cutting_of, is_exact}
+use Rattle.flick_top.specs.Giving.{BeginsWith, HasEnded}
 use Rattle.flick_top.specs.Outside.{Input, Held}
 use Rattle.flick_top.specs.Statement.{Done}
 use Rattle.flick_top.specs.Status.{number_of, file_refused, source_failed, sink_failed}
 use Rattle.flick_top.specs.Task.{Task, answering_task, engine_in, engine_of, engine_with, task_in, items_of, exact_of}
 use Rattle.flick_top.specs.Turn.{AreFirst, EndsAs, IsReady}
-use Rattle.flick_top.proofs.Prefix.{fresh, WrotePrefix, front-answers, first-lines, all_lines}
+use Rattle.flick_top.proofs.Prefix.{WrotePrefix, front-answers, first-items}
 use Rattle.flick_top.proofs.Turning.{SendsAll, all-spent}
 
 -- the octets that were written before an input failed are the answers to the items that ended in what was taken of it
@@ -36,19 +35,22 @@ module _ (job : Job) (f : Answering) (coded : IsCoded (engine_in job)) (left lef
   abbrev pub DoneOf : Type 0
   DoneOf = Done (answering_task [] job) f (Some (engine_in job)) left left' before now held held' old new status
 
+  -- so many items were answered
+  whole_of : (given : List Item) → BeginsWith (cutting_of job) left given → Appends held held' (answers f given)
+      → (input : List ℕ) → left ≡ Some input → (n : ℕ) × Appends held held' (answers f (take n ((cutting_of job).whole input)))
+  whole_of given begins wrote input reported = (
+    length given,
+    subst (λ (l : List Item). Appends held held' (answers f l))
+        (sym (first-items (cutting_of job) left given input begins reported)) wrote,
+  )
+
   -- these items were answered, and no more could be read or answered
-  pub stopped : (mid : Input) (s t : State) (ls : List Line) → s ≡ fresh longest_line most_input → Advances left mid s t ls
-      → KnowsEnd t mid → Appends held held' (answers f ls) → file_refused < status → status ≢ sink_failed
-      → Ends job f left left' held held' status → DoneOf
-  stopped mid s t ls new p knows wrote other sound ends = record {
+  pub stopped : (given : List Item) → BeginsWith (cutting_of job) left given → Appends held held' (answers f given)
+      → file_refused < status → status ≢ sink_failed → Ends job f left left' held held' status → DoneOf
+  stopped given begins wrote other sound ends = record {
     output = λ few. absurd (omega (arith, few, other));
-    prefix = λ input reported.
-        front-answers input left mid s t ls f held held' longest_line most_input new reported p knows wrote;
-    whole = λ not_five input reported. (
-      length ls,
-      subst (λ (l : List Line). Appends held held' (answers f l))
-          (sym (first-lines input left mid s t ls longest_line most_input new reported p knows)) wrote,
-    );
+    prefix = λ input reported. front-answers (cutting_of job) left given f held held' input begins reported wrote;
+    whole = λ not_five input reported. whole_of given begins wrote input reported;
     ended = ends;
     unread = λ none. absurd (cc none);
     at_end = λ some few. absurd (omega (arith, few, other));
@@ -58,7 +60,7 @@ module _ (job : Job) (f : Answering) (coded : IsCoded (engine_in job)) (left lef
   }
 
   -- an answer could not be written
-  pub broken : ((input : List ℕ) → left ≡ Some input → WrotePrefix held held' (answers f (lines longest_line input)))
+  pub broken : ((input : List ℕ) → left ≡ Some input → WrotePrefix held held' (answers f ((cutting_of job).whole input)))
       → status ≡ sink_failed → DoneOf
   broken begun is = record {
     output = λ few. absurd (omega (arith, few, is));
@@ -73,38 +75,30 @@ module _ (job : Job) (f : Answering) (coded : IsCoded (engine_in job)) (left lef
   }
 
   -- all items were answered
-  pub finished : (s t : State) (ls : List Line) → s ≡ fresh longest_line most_input → Advances left left' s t ls
-      → KnowsEnd t left' → (pending t [] ≡ []) × (t.ended ≡ true) → Appends held held' (answers f ls)
-      → SendsAll (is_exact job) (sent_for f ls) old new → IsAtEnd left'
-      → status ≡ (if refuses f ls then 1 else 0) → DoneOf
-  finished s t ls is p knows (none, ended) wrote sends at_end ends = record {
-    output = λ few input reported.
-        let same : lines longest_line input ≡ ls =
-        all_lines input left left' s t ls longest_line most_input is reported p knows ended none in (
-          ends ∙ ap (λ (l : List Line). if refuses f l then 1 else 0) (sym same),
-          subst (λ (l : List Line). Appends held held' (answers f l)) (sym same) wrote,
-        );
-    prefix = λ input reported.
-        front-answers input left left' s t ls f held held' longest_line most_input is reported p knows wrote;
-    whole = λ not_five input reported. (
-      length ls,
-      subst (λ (l : List Line). Appends held held' (answers f l))
-          (sym (first-lines input left left' s t ls longest_line most_input is reported p knows)) wrote,
-    );
-    ended = λ four. absurd (not_four (refuses f ls) status ends four);
-    unread = λ none. absurd (cc none);
-    at_end = λ some few. at_end;
-    engine = refl;
-    coded = coded;
-    spent = λ few input reported.
-        let same : lines longest_line input ≡ ls =
-        all_lines input left left' s t ls longest_line most_input is reported p knows ended none in
-        subst (λ (l : List Line). IsSpentBy (is_exact job) (sent_for f l) old new) (sym same)
-        (all-spent (is_exact job) (sent_for f ls) old new sends);
-  } where
-    not_four : (b : Bool) (n : ℕ) → n ≡ (if b then 1 else 0) → n ≡ source_failed → ⊥
-    not_four true n e four = omega (arith, e, four)
-    not_four false n e four = omega (arith, e, four)
+  pub finished : (given : List Item) → HasEnded (cutting_of job) left left' given → Appends held held' (answers f given)
+      → SendsAll (is_exact job) (sent_for f given) old new → status ≡ (if refuses f given then 1 else 0) → DoneOf
+  finished given h wrote sends ends =
+      let begins : BeginsWith (cutting_of job) left given = λ input reported. ([], h.all input reported ∙ sym (append-nil given)) in
+      record {
+        output = λ few input reported.
+            let same = h.all input reported in (
+              ends ∙ ap (λ (l : List Item). if refuses f l then 1 else 0) (sym same),
+              subst (λ (l : List Item). Appends held held' (answers f l)) (sym same) wrote,
+            );
+        prefix = λ input reported. front-answers (cutting_of job) left given f held held' input begins reported wrote;
+        whole = λ not_five input reported. whole_of given begins wrote input reported;
+        ended = λ four. absurd (not_four (refuses f given) status ends four);
+        unread = λ none. absurd (cc none);
+        at_end = λ some few. h.end;
+        engine = refl;
+        coded = coded;
+        spent = λ few input reported.
+            subst (λ (l : List Item). IsSpentBy (is_exact job) (sent_for f l) old new) (sym (h.all input reported))
+            (all-spent (is_exact job) (sent_for f given) old new sends);
+      } where
+        not_four : (b : Bool) (n : ℕ) → n ≡ (if b then 1 else 0) → n ≡ source_failed → ⊥
+        not_four true n e four = omega (arith, e, four)
+        not_four false n e four = omega (arith, e, four)
 
 -- ---- a text before them
 

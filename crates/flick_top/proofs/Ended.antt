@@ -1,18 +1,18 @@
--- The lines that ended in the octets taken are those that were answered where the source failed, by induction on the octets.
-use Rattle.std.proofs.Common.{◌≡◌, ◌≢◌, ℕ, zero, suc, ◌+◌, ◌<◌, Bool, true, false, List, [], ◌∷◌, ◌++◌, length, refl, sym, ◌∙◌, ap, subst, arith, append_assoc, append-nil, length-append}
-use Rattle.std.specs.Prelude.{Option, ◌||◌, ◌==◌, if◌then◌else◌}
-use Rattle.std.specs.Io.KnownBytes.{Appends, Consumes}
+-- The lines that ended in the octets taken are those that were read where the source failed, by induction on the octets.
+use Rattle.std.proofs.Common.{◌≡◌, ◌≢◌, ℕ, zero, suc, ◌+◌, ◌<◌, Bool, true, false, List, [], ◌∷◌, ◌++◌, map, length, refl, sym, ◌∙◌, ap, subst, arith, append_assoc, append-nil, length-append}
+use Rattle.std.specs.Prelude.{◌||◌, ◌==◌, if◌then◌else◌}
 use Rattle.std.proofs.lemmas.Bool.Decides.{nat_tests}
-use Rattle.std.proofs.lemmas.List.{append_cancel_right}
+use Rattle.std.proofs.lemmas.List.{append_cancel_right, map-append}
 use Rattle.std.proofs.lemmas.List.Elements.{All-nil, All-cons, All-append}
 use Rattle.kit_base.specs.Limits.{longest_line}
 use Rattle.kit_base.specs.declared.lines.Line.{Line}
 use Rattle.kit_base.specs.declared.lines.Line.TheVariants.{Long}
-use Rattle.kit_base.specs.Lines.{State, Passed, Advances, pending, lines, lines_from, lines_after, line_of, HasNoEnd}
-use Rattle.kit_base.proofs.Cutting.{advances-trans, lines-long, lines_after-append}
-use Rattle.flick_top.specs.Answer.{Answering, answers}
+use Rattle.kit_base.specs.Lines.{State, Passed, pending, lines, lines_from, lines_after, line_of, HasNoEnd}
+use Rattle.kit_base.proofs.Cutting.{lines-long, lines_after-append}
 use Rattle.flick_top.specs.Items.{has_end, ended_part, IsCutting, by_lines}
-use Rattle.flick_top.proofs.Prefix.{fresh}
+use Rattle.flick_top.specs.declared.items.Item.{Item}
+use Rattle.flick_top.specs.declared.items.Item.TheVariants as items
+use Rattle.flick_top.specs.Giving.{fresh}
 
 none-ended : (xs : List ℕ) → has_end xs ≡ false → ended_part xs ≡ []
 none-ended [] h = refl
@@ -102,10 +102,11 @@ pending_by true n kept more none none' long =
     ap (λ (l : List Line). Long ∷ l) (ap (lines_after n) (sym (append-nil (kept ++ more))) ∙ lines_after-append n (kept ++ more) [] all)
 pending_by false n kept more none none' long = filled n kept more none none' long
 
-ended_lines : (s u : State) (got : List ℕ) (ls : List Line) (n most : ℕ) → s ≡ fresh n most → Passed s u got ls → HasNoEnd u.kept
+-- the lines that were read are those that ended in the octets taken
+pub ended-lines : (s u : State) (got : List ℕ) (ls : List Line) (n most : ℕ) → s ≡ fresh n most → Passed s u got ls → HasNoEnd u.kept
     → u.ended ≡ false
     → lines n (ended_part got) ≡ ls
-ended_lines s u got ls n most new passed none unended =
+ended-lines s u got ls n most new passed none unended =
     let (tail, split, none') = split_ended got in
     let more = filler (n + 2) in
     let long : n + 1 < length more = omega (arith, length-filler (n + 2)) in
@@ -120,17 +121,6 @@ ended_lines s u got ls n most new passed none unended =
     ∙ lines-ended n got (tail ++ more)
     ∙ ap (λ (l : List Line). lines n (ended_part got) ++ l) (filled n tail more none' (filler-none (n + 2)) long) in
     append_cancel_right (lines n (ended_part got)) ls (Long ∷ []) (sym parts ∙ begun ∙ ap (λ (l : List Line). ls ++ l) after)
-
--- the answers are those of the lines that ended in the octets taken
-pub wrote-ended : (before now after : Option (List ℕ)) (s t u : State) (ls : List Line) (f : Answering) (held held' : Option (List ℕ))
-    (n most : ℕ)
-    → s ≡ fresh n most
-    → Advances before now s t ls → Advances now after t u [] → HasNoEnd u.kept → u.ended ≡ false → Appends held held' (answers f ls)
-    → (taken : List ℕ) × Consumes before after taken × Appends held held' (answers f (lines n (ended_part taken)))
-wrote-ended before now after s t u ls f held held' n most new p q none unended wrote =
-    let (got, consumed, passed) = advances-trans before now after s t u ls [] p q in
-    let same : lines n (ended_part got) ≡ ls = ended_lines s u got (ls ++ []) n most new passed none unended ∙ append-nil ls in
-    (got, consumed, subst (λ (l : List Line). Appends held held' (answers f l)) (sym same) wrote)
 
 -- ---- lines as a cutting
 
@@ -148,13 +138,18 @@ part_grows (x ∷ xs) more = go (has_end (x ∷ xs)) refl (part_grows xs more) w
 pub lines_cut : IsCutting by_lines
 lines_cut = record {
   ended = λ octets more.
-      let (rest, grown) = part_grows octets more in
-      (lines longest_line rest, ap (lines longest_line) grown ∙ lines-ended longest_line octets rest);
-  whole = λ octets more.
-      let (tail, split, none) = split_ended octets in (
-        lines longest_line (tail ++ more),
-        ap (λ (l : List ℕ). lines longest_line (l ++ more)) split
-            ∙ ap (lines longest_line) (append_assoc (ended_part octets) tail more)
-            ∙ lines-ended longest_line octets (tail ++ more),
+      let (rest, grown) = part_grows octets more in (
+        map items.Line (lines longest_line rest),
+        ap (map items.Line) (ap (lines longest_line) grown ∙ lines-ended longest_line octets rest)
+            ∙ map-append items.Line (lines longest_line (ended_part octets)) (lines longest_line rest),
       );
+  whole = λ octets more.
+      let (tail, split, none) = split_ended octets in
+      let parted : lines longest_line (octets ++ more) ≡ lines longest_line (ended_part octets) ++ lines longest_line (tail ++ more) =
+      ap (λ (l : List ℕ). lines longest_line (l ++ more)) split
+      ∙ ap (lines longest_line) (append_assoc (ended_part octets) tail more) ∙ lines-ended longest_line octets (tail ++ more) in (
+        map items.Line (lines longest_line (tail ++ more)),
+        ap (map items.Line) parted ∙ map-append items.Line (lines longest_line (ended_part octets)) (lines longest_line (tail ++ more)),
+      );
+  stays = λ octets more stopped. absurd (cc stopped);
 }

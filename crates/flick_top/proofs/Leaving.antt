@@ -41,6 +41,8 @@ acts_engine : (a : Action) (e : Coded) (words : List (List ℕ)) (files : Files)
     → task.engine ≡ Some e
 acts_engine (actions.Serve replies) e words files task h = serves_engine e (files (word_at words replies)) task h
 acts_engine (actions.Answer verb) e words files task is = ap (λ (t : Task). t.engine) is
+acts_engine actions.Pipe e words files task is = ap (λ (t : Task). t.engine) is
+acts_engine actions.Unpipe e words files task is = ap (λ (t : Task). t.engine) is
 acts_engine actions.Stubs e words files task is = ap (λ (t : Task). t.engine) is
 acts_engine (actions.Make number many) e words files task is = ap (λ (t : Task). t.engine) is
 

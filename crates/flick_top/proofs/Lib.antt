@@ -8,8 +8,20 @@ pub mod Determined
 pub mod Turning
 -- * Whatever ends a run, a prefix of the defined output was written
 pub mod Prefix
--- * The lines that ended in the octets taken are those that were answered where the source failed, by induction on the octets
+-- * The lines that ended in the octets taken are those that were read where the source failed, by induction on the octets
 pub mod Ended
+-- * Lines that are read are items of the input that is cut into lines
+pub mod GivenLines
+-- * Parts of a stream that are read are items of the input that is cut into them
+pub mod GivenParts
+-- * What was given, whatever gives it, and what a call has done by its answer
+pub mod Begun
+-- * The messages of a stream as a cutting
+pub mod Parted
+-- * What is written under `pipe`, by the digits that a message is, or by a refusal
+pub mod Piping
+-- * What answers an item, by what answers a line or a part of a stream
+pub mod Writing
 -- * What is done of a task, however its work ends
 pub mod Doing
 -- * Each item has an answer

@@ -1,12 +1,17 @@
 -- The words have one output over the files, by induction on the input's items.
 use Rattle.std.proofs.Common.{◌≡◌, ℕ, List, [], ◌∷◌, ◌++◌, length, Bool, true, false, ◌||◌, Option, Some, None, Result, Ok, Err, refl, sym, ap, ◌∙◌, subst}
-use Rattle.std.specs.Prelude.{nat_le, MatchBool, if◌then◌else◌}
+use Rattle.std.specs.Prelude.{codes, nat_le, MatchBool, if◌then◌else◌}
+use Rattle.hex.specs.Hex.{decode_of, encode_lower}
+use Rattle.kit_base.specs.declared.lines.Line.{Line}
 use Rattle.kit_base.specs.declared.lines.Line.TheVariants.{Text, Long, End}
+use Rattle.wire_def.specs.declared.encoding.Back.{Back}
+use Rattle.wire_frames.specs.declared.messages.Part.{Part}
+use Rattle.wire_frames.specs.declared.messages.Part.TheVariants as part
 use Rattle.stub_codes.specs.declared.stub.Stub.{Stub}
 use Rattle.stub_codes.specs.Stubs.{Coded}
 use Rattle.flick_lines.specs.declared.verb.Verb.{Verb}
-use Rattle.flick_lines.specs.declared.verb.Verb.TheVariants.{Count}
-use Rattle.flick_lines.specs.Sent.{Sending}
+use Rattle.flick_lines.specs.declared.verb.Verb.TheVariants.{Marshal, Unmarshal, Count}
+use Rattle.flick_lines.specs.Sent.{Sending, nothing}
 use Rattle.flick_lines.specs.Verbs.{IsAnswerTo}
 use Rattle.flick_lines.proofs.Alike.{answer_over}
 use Rattle.flick_lines.proofs.Twins.{AreTwins}
@@ -27,26 +32,29 @@ use Rattle.flick_top.specs.declared.job.Job.TheVariants as jobs
 use Rattle.flick_top.specs.declared.saying.Saying.{Saying}
 use Rattle.flick_top.specs.declared.saying.Saying.TheVariants as sayings
 use Rattle.flick_top.specs.declared.status.Status.{Status}
-use Rattle.flick_top.specs.Answer.{Answer, answer_of, is_refusal, Answering, IsTextTo, IsAnswer, answers, refuses}
+use Rattle.flick_top.specs.declared.items.Item.{Item}
+use Rattle.flick_top.specs.declared.items.Item.TheVariants as items
+use Rattle.flick_top.specs.Answer.{Answer, answer_by, answer_of, engine_in, frame_of, is_refusal, written_of, Answering, IsTextTo, IsLineAnswer, IsPartLine, IsAnswer, answers, refuses, cutting_of}
 use Rattle.flick_top.specs.Coming.{Files, showing_task, text_before, serving_task, ServesText, ServesFile, Acts, ActsOver, Comes, AreAnswered}
 use Rattle.flick_top.specs.Command.{command_of, word_at}
 use Rattle.flick_top.specs.File.{Reported, longest_replies}
 use Rattle.flick_top.specs.Fronts.{Read}
-use Rattle.flick_top.specs.Items.{Item}
+use Rattle.flick_top.specs.Items.{Cutting, by_frames}
 use Rattle.flick_top.specs.Laws.{IsOverCodes, ShowsCodes, OneOutput}
 use Rattle.flick_top.specs.Status.{number_of}
 use Rattle.flick_top.specs.Task.{Task, saying_task, answering_task, writing_task, shapeless_task, items_of, Out, out_of}
-use Rattle.flick_top.proofs.Determined.{one_text}
+use Rattle.flick_top.proofs.Determined.{one_part, one_text}
 use Rattle.flick_top.proofs.FilesSay.{AreAlike, AreReported, file_says, reported_alike}
 use Rattle.flick_top.proofs.TwinTexts.{before_alike, stubs_alike, made_alike}
 
 -- ---- what the words come to
 
--- one verb over engines that answer alike, or servers over such engines with one text
-abbrev AreJobs : Job → Job → Type 0
-AreJobs (jobs.Over v d) (jobs.Over w e) = (v ≡ w) × AreAlike (w ≡ Count) d e
-AreJobs (jobs.Serve r) (jobs.Serve s) = AreTwins r.coded.binding s.coded.binding × (r.text ≡ s.text)
-AreJobs _ _ = ⊥
+-- jobs whose texts, cuttings and written octets are the same, over engines that answer alike
+pub record AreJobs (j k : Job) : Type 0 where
+  pub texts : (octets a : List ℕ) → IsTextTo j octets a → IsTextTo k octets a
+  pub twins : AreTwins (engine_in j).binding (engine_in k).binding
+  pub cuts : cutting_of j ≡ cutting_of k
+  pub written : (text : List ℕ) → written_of j text ≡ written_of k text
 
 -- no items, or those of jobs that answer alike
 abbrev AreFeeds : Option Job → Option Job → Type 0
@@ -72,11 +80,21 @@ refused_alike : (saying : Saying) (d e : Coded) (t u : Task) → t ≡ saying_ta
 refused_alike saying d e t u p q =
     tasks_by t u (saying_task saying (Some d)) (saying_task saying (Some e)) p q (record { text = refl; status = refl; feeds = tt })
 
+-- servers over such engines with one text
+servers_alike : (d e : Coded) → AreTwins d.binding e.binding → (text : List ℕ)
+    → AreJobs (jobs.Serve (record { coded = d; text = text })) (jobs.Serve (record { coded = e; text = text }))
+servers_alike d e alike text = record {
+  texts = λ octets a is. served_over d.binding e.binding alike text octets a is;
+  twins = alike;
+  cuts = refl;
+  written = λ octets. refl;
+}
+
 given_alike : (d e : Coded) → AreTwins d.binding e.binding → (text : List ℕ) (x : Result Given ℕ) (t u : Task)
     → t ≡ serving_task d text x → u ≡ serving_task e text x → AreTasks t u
 given_alike d e alike text (Ok g) t u p q =
     tasks_by t u (serving_task d text (Ok g)) (serving_task e text (Ok g)) p q
-    (record { text = refl; status = refl; feeds = (alike, refl) })
+    (record { text = refl; status = refl; feeds = servers_alike d e alike text })
 given_alike d e alike text (Err line) t u p q = refused_alike (sayings.WrongReply line) d e t u p q
 
 serves_text : (d e : Coded) → AreTwins d.binding e.binding → (text : List ℕ) (t u : Task) → ServesText d text t → ServesText e text u
@@ -103,12 +121,48 @@ verb_alike v d e alike = record {
   codes = λ is. alike.codes (subst (λ (w : Verb). IsOverCodes (actions.Answer w)) (sym is) tt);
 }
 
+-- a verb that does not show the codes
+quiet_over : (v : Verb) → (v ≡ Count → ⊥) → (d e : Coded) → AreTwins d.binding e.binding → (octets a : List ℕ) → IsAnswerTo v d octets a
+    → IsAnswerTo v e octets a
+quiet_over v other d e twins octets a is = answer_over v d e twins (λ count. absurd (other count)) octets a is
+
+-- one verb over engines that answer alike
+overs_alike : (v : Verb) (d e : Coded) → AreAlike (v ≡ Count) d e → AreJobs (jobs.Over v d) (jobs.Over v e)
+overs_alike v d e alike = record {
+  texts = λ octets a is. answer_over v d e alike.twins (λ count. alike.codes count) octets a is;
+  twins = alike.twins;
+  cuts = refl;
+  written = λ octets. refl;
+}
+
+pipes_alike : (d e : Coded) → AreTwins d.binding e.binding → AreJobs (jobs.Pipe d) (jobs.Pipe e)
+pipes_alike d e twins = record {
+  texts = λ octets a is. quiet_over Marshal (λ count. absurd (cc count)) d e twins octets a is;
+  twins = twins;
+  cuts = refl;
+  written = λ text. ap (λ (k : Back). frame_of k (decode_of text)) twins.backs;
+}
+
+unpipes_alike : (d e : Coded) → AreTwins d.binding e.binding → AreJobs (jobs.Unpipe d) (jobs.Unpipe e)
+unpipes_alike d e twins = record {
+  texts = λ octets a is. quiet_over Unmarshal (λ count. absurd (cc count)) d e twins octets a is;
+  twins = twins;
+  cuts = ap by_frames twins.backs;
+  written = λ text. refl;
+}
+
 acts_alike : (a : Action) (d e : Coded) → AreAlike (IsOverCodes a) d e → (words : List (List ℕ)) (files : Files) (t u : Task)
     → Acts a d words files t → Acts a e words files u → AreTasks t u
 acts_alike (actions.Serve replies) d e alike words files t u p q = serves_file d e alike.twins (files (word_at words replies)) t u p q
 acts_alike (actions.Answer v) d e alike words files t u p q =
     tasks_by t u (answering_task (text_before v d) (jobs.Over v d)) (answering_task (text_before v e) (jobs.Over v e)) p q
-    (record { text = before_alike v d e (verb_alike v d e alike); status = refl; feeds = (refl, verb_alike v d e alike) })
+    (record { text = before_alike v d e (verb_alike v d e alike); status = refl; feeds = overs_alike v d e (verb_alike v d e alike) })
+acts_alike actions.Pipe d e alike words files t u p q =
+    tasks_by t u (answering_task [] (jobs.Pipe d)) (answering_task [] (jobs.Pipe e)) p q
+    (record { text = refl; status = refl; feeds = pipes_alike d e alike.twins })
+acts_alike actions.Unpipe d e alike words files t u p q =
+    tasks_by t u (answering_task [] (jobs.Unpipe d)) (answering_task [] (jobs.Unpipe e)) p q
+    (record { text = refl; status = refl; feeds = unpipes_alike d e alike.twins })
 acts_alike actions.Stubs d e alike words files t u p q =
     tasks_by t u (writing_task (stubs_text d) [] (Some d)) (writing_task (stubs_text e) [] (Some e)) p q
     (record { text = stubs_alike d e alike.twins (alike.codes tt); status = refl; feeds = tt })
@@ -143,15 +197,6 @@ over_files codes others (Some (commands.Over a n)) words files t u shown (r, mr,
 
 -- ---- what is written
 
-text_over : (j k : Job) → AreJobs j k → (octets a : List ℕ) → IsTextTo j octets a → IsTextTo k octets a
-text_over (jobs.Over v d) (jobs.Over w e) (same, alike) octets a is =
-    answer_over w d e alike.twins (λ count. alike.codes count) octets a (subst (λ (z : Verb). IsAnswerTo z d octets a) same is)
-text_over (jobs.Serve r) (jobs.Serve s) (alike, same) octets a is =
-    served_over r.coded.binding s.coded.binding alike s.text octets a
-    (subst (λ (text : List ℕ). IsServed r.coded.binding text octets a) same is)
-text_over (jobs.Over v d) (jobs.Serve s) h octets a is = absurd h
-text_over (jobs.Serve r) (jobs.Over w e) h octets a is = absurd h
-
 -- one text, and one end by it
 record AreShown (a b : Answer) : Type 0 where
   pub octets : a.octets ≡ b.octets
@@ -164,13 +209,28 @@ shown_by a b x y p q h =
 text_shown : (x y : List ℕ) (s t : Sending) → x ≡ y → AreShown (answer_of x s) (answer_of y t)
 text_shown x y s t same = record { octets = same; refused = ap is_refusal same }
 
+line_shown : (j k : Job) (line : Line) (a b : Answer) → AreJobs j k → IsLineAnswer j line a → IsLineAnswer k line b → AreShown a b
+line_shown j k (Text octets) a b t (x, r, p, sent, is) (y, s, q, also, other) =
+    let same : x ≡ y = one_text k octets x y (t.texts octets x p) q in
+    shown_by a b (answer_by j x r) (answer_by k y s) is other
+    (record { octets = t.written x ∙ ap (written_of k) same; refused = ap is_refusal same })
+line_shown j k Long a b t is other =
+    shown_by a b (answer_by j (codes "! long") nothing) (answer_by k (codes "! long") nothing) is other
+    (record { octets = t.written (codes "! long"); refused = refl })
+line_shown j k End a b t is other = shown_by a b b b (is ∙ sym other) refl (record { octets = refl; refused = refl })
+
+part_over : (d e : Coded) → AreTwins d.binding e.binding → (p : Part) (o : List ℕ) → IsPartLine d p o → IsPartLine e p o
+part_over d e twins (part.Message message) o (text, is, same) =
+    (text, quiet_over Unmarshal (λ count. absurd (cc count)) d e twins (encode_lower message) text is, same)
+part_over d e twins (part.Fault fault) o is = is
+part_over d e twins part.Cut o is = is
+
 item_shown : (j k : Job) (item : Item) (a b : Answer) → AreJobs j k → IsAnswer j item a → IsAnswer k item b → AreShown a b
-item_shown j k (Text octets) a b t (x, r, p, sent, is) (y, s, q, also, other) =
-    shown_by a b (answer_of (x ++ 10 ∷ []) r) (answer_of (y ++ 10 ∷ []) s) is other
-    (text_shown (x ++ 10 ∷ []) (y ++ 10 ∷ []) r s
-    (ap (λ (l : List ℕ). l ++ 10 ∷ []) (one_text k octets x y (text_over j k t octets x p) q)))
-item_shown j k Long a b t is other = shown_by a b b b (is ∙ sym other) refl (record { octets = refl; refused = refl })
-item_shown j k End a b t is other = shown_by a b b b (is ∙ sym other) refl (record { octets = refl; refused = refl })
+item_shown j k (items.Line line) a b t is other = line_shown j k line a b t is other
+item_shown j k (items.Part p) a b t (x, is, e) (y, also, f) =
+    shown_by a b (answer_of x nothing) (answer_of y nothing) e f
+    (text_shown x y nothing nothing
+    (one_part (engine_in k) p x y (part_over (engine_in j) (engine_in k) t.twins p x is) also))
 
 -- answers of jobs that answer alike
 abbrev AreShownAlike : Answering → Answering → Type 0
@@ -207,7 +267,8 @@ feeds_output None None text status f g e h i input = refl
 feeds_output None (Some k) text status f g e h i input = absurd e
 feeds_output (Some j) None text status f g e h i input = absurd e
 feeds_output (Some j) (Some k) text status f g t h i input =
-    items_output text status f g (items_of (Some k) input) (λ item. item_shown j k item (f item) (g item) t (h item) (i item))
+    ap (λ (c : Cutting). out_with text status (answers f (c.whole input)) (refuses f (c.whole input))) t.cuts
+    ∙ items_output text status f g (items_of (Some k) input) (λ item. item_shown j k item (f item) (g item) t (h item) (i item))
 
 tasks_output : (t u : Task) (f g : Answering) → AreTasks t u → AreAnswered t.feed f → AreAnswered u.feed g → (input : List ℕ)
     → out_of t f input ≡ out_of u g input

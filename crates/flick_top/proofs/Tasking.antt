@@ -1,9 +1,6 @@
 -- What is prepared is what the words come to.
 use Rattle.std.proofs.Common.{◌≡◌, inl, inr, ℕ, true, List, [], Option, Some, None, refl, sym, ◌∙◌, subst}
 use Rattle.std.proofs.KnownBytes.{Appends-nil, Consumes-nil}
-use Rattle.kit_base.specs.declared.lines.Line.{Line}
-use Rattle.kit_base.specs.Lines.{State, Advances}
-use Rattle.kit_base.proofs.Cutting.{advances-trans}
 use Rattle.raw_buf.specs.Buf.{Buf}
 use Rattle.stub_codes.specs.Stubs.{Coded}
 use Rattle.flick_lines.specs.Sent.{nothing}
@@ -18,7 +15,7 @@ use Rattle.flick_top.specs.Answer.{Answering, answer_of}
 use Rattle.flick_top.specs.Coming.{Files, Comes, IsTask, AreAnswered}
 use Rattle.flick_top.specs.Command.{command_of}
 use Rattle.flick_top.specs.Made.{codes_of}
-use Rattle.flick_top.specs.Outside.{Input, Held, TakesPrefix}
+use Rattle.flick_top.specs.Outside.{Input, Held}
 use Rattle.flick_top.specs.Saying.{ending}
 use Rattle.flick_top.specs.Statement.{Done, Works}
 use Rattle.flick_top.specs.Status.{usage}
@@ -51,14 +48,6 @@ none_first (Some job) = refl
 -- a task for whose text nothing was sent
 pub is-in : (Is : Task → Type 0) (p : Prepared) (buf : Buf) → Is (task_in p []) → IsIn Is p buf buf
 is-in Is p buf is = ([], is, spent-none true buf, none_first p.feed)
-
--- ---- what was taken
-
-pub took : (before now after : Option (List ℕ)) (s t u : State) (ls more : List Line) → Advances before now s t ls
-    → Advances now after t u more
-    → TakesPrefix before after
-took before now after s t u ls more p q =
-    let (got, consumed, passed) = advances-trans before now after s t u ls more p q in (got, consumed)
 
 -- ---- what the words come to
 

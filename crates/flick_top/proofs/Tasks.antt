@@ -66,6 +66,8 @@ serves_has e (Some text) = within_serves e text (nat_le (length text) longest_re
 action_has : (a : Action) (e : Coded) (words : List (List ℕ)) (files : Files) → (task : Task) × Acts a e words files task
 action_has (actions.Serve replies) e words files = serves_has e (files (word_at words replies))
 action_has (actions.Answer verb) e words files = (answering_task (text_before verb e) (jobs.Over verb e), refl)
+action_has actions.Pipe e words files = (answering_task [] (jobs.Pipe e), refl)
+action_has actions.Unpipe e words files = (answering_task [] (jobs.Unpipe e), refl)
 action_has actions.Stubs e words files = (writing_task (stubs_text e) [] (Some e), refl)
 action_has (actions.Make number many) e words files =
     (writing_task (make_text e.binding number many) (all_sent e number many) (Some e), refl)

@@ -4,15 +4,12 @@ use Rattle.std.specs.Prelude.{Option, ◌||◌}
 use Rattle.std.specs.Io.KnownBytes.{Appends}
 use Rattle.std.proofs.KnownBytes.{Appends-trans}
 use Rattle.std.proofs.lemmas.Grind.{flat_map-append}
-use Rattle.kit_base.specs.declared.lines.Line.{Line}
-use Rattle.kit_base.specs.Lines.{State, Advances}
-use Rattle.kit_base.proofs.Cutting.{advances-trans}
 use Rattle.raw_buf.specs.Buf.{Buf}
 use Rattle.flick_lines.specs.Sent.{Sending, Sends, IsSpentBy}
 use Rattle.flick_lines.proofs.Sending.{spent-none, spent-more}
 use Rattle.flick_top.specs.declared.job.Job.{Job}
-use Rattle.flick_top.specs.Answer.{Answer, answer_of, Answering, IsAnswering, answers, refuses, is_refusal, sent_for, is_exact, AnswersIn}
-use Rattle.flick_top.specs.Items.{Item}
+use Rattle.flick_top.specs.declared.items.Item.{Item}
+use Rattle.flick_top.specs.Answer.{Answer, Answering, IsAnswering, answers, refuses, sent_for, is_exact, AnswersIn}
 use Rattle.flick_top.proofs.Determined.{one_answer}
 
 -- ---- what is sent, one after the other
@@ -43,42 +40,40 @@ or_false : (a : Bool) → (a || false) ≡ a
 or_false true = refl
 or_false false = refl
 
-refuses-push : (f : Answering) (ls : List Line) (line : Line) → refuses f (ls ++ line ∷ []) ≡ (refuses f ls || (f line).refused)
-refuses-push f [] line = or_false (f line).refused
-refuses-push f (l ∷ ls) line =
-    ap (λ (b : Bool). (f l).refused || b) (refuses-push f ls line) ∙ or_assoc (f l).refused (refuses f ls) (f line).refused
+refuses-push : (f : Answering) (given : List Item) (item : Item) → refuses f (given ++ item ∷ []) ≡ (refuses f given || (f item).refused)
+refuses-push f [] item = or_false (f item).refused
+refuses-push f (i ∷ given) item =
+    ap (λ (b : Bool). (f i).refused || b) (refuses-push f given item) ∙ or_assoc (f i).refused (refuses f given) (f item).refused
 
-pub answers-push : (f : Answering) (ls : List Line) (line : Line) → answers f (ls ++ line ∷ []) ≡ answers f ls ++ (f line).octets
-answers-push f ls line =
-    flat_map-append (λ (i : Item). (f i).octets) ls (line ∷ []) ∙ ap (λ (l : List ℕ). answers f ls ++ l) (append-nil (f line).octets)
+pub answers-push : (f : Answering) (given : List Item) (item : Item)
+    → answers f (given ++ item ∷ []) ≡ answers f given ++ (f item).octets
+answers-push f given item =
+    flat_map-append (λ (i : Item). (f i).octets) given (item ∷ [])
+    ∙ ap (λ (l : List ℕ). answers f given ++ l) (append-nil (f item).octets)
 
-sent-push : (f : Answering) (ls : List Line) (line : Line) → sent_for f (ls ++ line ∷ []) ≡ sent_for f ls ++ (f line).sent ∷ []
-sent-push f [] line = refl
-sent-push f (l ∷ ls) line = ap (λ (ss : List Sending). (f l).sent ∷ ss) (sent-push f ls line)
+sent-push : (f : Answering) (given : List Item) (item : Item) → sent_for f (given ++ item ∷ []) ≡ sent_for f given ++ (f item).sent ∷ []
+sent-push f [] item = refl
+sent-push f (i ∷ given) item = ap (λ (ss : List Sending). (f i).sent ∷ ss) (sent-push f given item)
 
--- whatever answers the items of a job, these were written for lines, that one is a refusal was reported, and their messages were sent
-abbrev pub AreWritten : Job → List Line → Option (List ℕ) → Option (List ℕ) → Bool → Buf → Buf → Type 0
-AreWritten job ls held held' refused old new = (f : Answering) → IsAnswering job f
-    → Appends held held' (answers f ls) × (refused ≡ refuses f ls) × SendsAll (is_exact job) (sent_for f ls) old new
+-- whatever answers the items of a job, these were written for items, that one is a refusal was reported, and their messages were sent
+abbrev pub AreWritten : Job → List Item → Option (List ℕ) → Option (List ℕ) → Bool → Buf → Buf → Type 0
+AreWritten job given held held' refused old new = (f : Answering) → IsAnswering job f
+    → Appends held held' (answers f given) × (refused ≡ refuses f given) × SendsAll (is_exact job) (sent_for f given) old new
 
-pub one_more : (left left' left'' : Option (List ℕ)) (s t u : State) (held held' held'' : Option (List ℕ)) (job : Job) (ls : List Line)
-    (line : Line) (refused refused' : Bool) (octets : List ℕ) (old mid new : Buf)
-    → Advances left left' s t ls → Advances left' left'' t u (line ∷ []) → AreWritten job ls held held' refused old mid
-    → AnswersIn job line octets mid new → Appends held' held'' octets → refused' ≡ (refused || is_refusal octets)
-    → (more : List Line) × Advances left left'' s u more × AreWritten job more held held'' refused' old new
-one_more left left' left'' s t u held held' held'' job ls line refused refused' octets old mid new p q written (sent, is, sends) a r' = (
-  ls ++ line ∷ [],
-  advances-trans left left' left'' s t u ls (line ∷ []) p q,
-  λ f all.
-      let (before, reported, first) = written f all in
-      let same : answer_of octets sent ≡ f line = one_answer job line (answer_of octets sent) (f line) is (all line) in (
-        subst (Appends held held'') (sym (answers-push f ls line))
-            (Appends-trans held held' held'' (answers f ls) (f line).octets before
-            (subst (Appends held' held'') (ap (λ (x : Answer). x.octets) same) a)),
-        r' ∙ ap (λ (b : Bool). refused || b) (ap (λ (x : Answer). x.refused) same)
-            ∙ ap (λ (b : Bool). b || (f line).refused) reported ∙ sym (refuses-push f ls line),
-        subst (λ (ss : List Sending). SendsAll (is_exact job) ss old new) (sym (sent-push f ls line))
-            (sends-push (is_exact job) (sent_for f ls) (f line).sent old mid new first
-            (subst (λ (z : Sending). Sends (is_exact job) z mid new) (ap (λ (x : Answer). x.sent) same) sends)),
-      ),
-)
+pub one_more : (held held' held'' : Option (List ℕ)) (job : Job) (given : List Item) (item : Item) (refused b refused' : Bool)
+    (octets : List ℕ) (old mid new : Buf) → AreWritten job given held held' refused old mid
+    → AnswersIn job item octets b mid new → Appends held' held'' octets → refused' ≡ (refused || b)
+    → AreWritten job (given ++ item ∷ []) held held'' refused' old new
+one_more held held' held'' job given item refused b refused' octets old mid new written (answer, is, o, r, sends) wrote found = λ f all.
+    let (before, reported, first) = written f all in
+    let same : answer ≡ f item = one_answer job item answer (f item) is (all item) in
+    let here : octets ≡ (f item).octets = sym o ∙ ap (λ (x : Answer). x.octets) same in
+    let refusal : b ≡ (f item).refused = sym r ∙ ap (λ (x : Answer). x.refused) same in (
+      subst (Appends held held'') (sym (answers-push f given item))
+          (Appends-trans held held' held'' (answers f given) (f item).octets before (subst (Appends held' held'') here wrote)),
+      found ∙ ap (λ (c : Bool). refused || c) refusal ∙ ap (λ (c : Bool). c || (f item).refused) reported
+          ∙ sym (refuses-push f given item),
+      subst (λ (ss : List Sending). SendsAll (is_exact job) ss old new) (sym (sent-push f given item))
+          (sends-push (is_exact job) (sent_for f given) (f item).sent old mid new first
+          (subst (λ (z : Sending). Sends (is_exact job) z mid new) (ap (λ (x : Answer). x.sent) same) sends)),
+    )

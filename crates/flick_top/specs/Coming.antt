@@ -50,6 +50,8 @@ ServesFile e (Some text) task =
 -- what an action comes to over an engine: to answer items by a verb, or by the replies of a second file, or to write a text
 abbrev pub Acts : Action → Coded → List (List ℕ) → Files → Task → Type 0
 Acts (actions.Answer verb) e words files task = task ≡ answering_task (text_before verb e) (jobs.Over verb e)
+Acts actions.Pipe e words files task = task ≡ answering_task [] (jobs.Pipe e)
+Acts actions.Unpipe e words files task = task ≡ answering_task [] (jobs.Unpipe e)
 Acts (actions.Serve replies) e words files task = ServesFile e (files (word_at words replies)) task
 Acts actions.Stubs e words files task = task ≡ writing_task (stubs_text e) [] (Some e)
 Acts (actions.Make number many) e words files task =

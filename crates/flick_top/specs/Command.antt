@@ -6,7 +6,7 @@ use Rattle.wire_def.specs.declared.encoding.Back.{Back}
 use Rattle.flick_engine.specs.Backs.{back_of}
 use Rattle.flick_lines.specs.declared.verb.Verb.TheVariants.{Marshal, Unmarshal, Reply, Unreply, Count}
 use Rattle.flick_top.specs.declared.command.Action.{Action}
-use Rattle.flick_top.specs.declared.command.Action.TheVariants.{Answer, Serve, Stubs, Make}
+use Rattle.flick_top.specs.declared.command.Action.TheVariants.{Answer, Pipe, Unpipe, Serve, Stubs, Make}
 use Rattle.flick_top.specs.declared.command.Command.{Command}
 use Rattle.flick_top.specs.declared.command.Command.TheVariants.{Help, Version, Show, Over}
 use Rattle.flick_top.specs.Fronts.{front_of}
@@ -27,6 +27,8 @@ last_action word =
     else if bytes_eq word (codes "reply") then Some (Answer Reply)
     else if bytes_eq word (codes "unreply") then Some (Answer Unreply)
     else if bytes_eq word (codes "count") then Some (Answer Count)
+    else if bytes_eq word (codes "pipe") then Some Pipe
+    else if bytes_eq word (codes "unpipe") then Some Unpipe
     else if bytes_eq word (codes "stubs") then Some Stubs
     else None
 
@@ -74,6 +76,8 @@ word_at words place = unwrap_or (slice_get words place) []
 -- an action that answers the items of the input
 abbrev pub IsOverItems : Action → Type 0
 IsOverItems (Answer verb) = Unit {0}
+IsOverItems Pipe = Unit {0}
+IsOverItems Unpipe = Unit {0}
 IsOverItems (Serve replies) = Unit {0}
 IsOverItems _ = ⊥
 

@@ -3,6 +3,7 @@ use Rattle.std.specs.Prelude.{◌≡◌, ◌⊎◌, ℕ, ◌≤◌, List, length
 use Rattle.std.specs.Io.KnownBytes.{Appends}
 use Rattle.kit_base.specs.Causes.{Rose}
 use Rattle.kit_base.specs.Limits.{most_input}
+use Rattle.wire_def.specs.declared.encoding.Back.{Back}
 use Rattle.raw_buf.specs.Buf.{Buf}
 use Rattle.stub_codes.specs.declared.stub.Stub.{Stub}
 use Rattle.stub_codes.specs.Stubs.{Coded}
@@ -16,7 +17,7 @@ use Rattle.flick_top.specs.Command.{command_of}
 use Rattle.flick_top.specs.Made.{codes_of, LeavesEngine}
 use Rattle.flick_top.specs.Outside.{Input, Held, TakesPrefix, Fails}
 use Rattle.flick_top.specs.Coming.{Files, IsTask, AreAnswered, Does}
-use Rattle.flick_top.specs.Items.{IsCutting, by_lines}
+use Rattle.flick_top.specs.Items.{IsCutting, by_frames, by_lines}
 use Rattle.flick_top.specs.Task.{Task, out_of}
 use Rattle.flick_top.specs.Statement.{Works, Completes}
 use Rattle.flick_top.specs.Status.{out_of_memory}
@@ -73,3 +74,7 @@ BoundFilesLeaveEngines = (made : Option Coded) (words : List (List ℕ)) (files 
 -- lines are cut so that what has ended stays
 abbrev pub LinesAreCut : Type 0
 LinesAreCut = IsCutting by_lines
+
+-- raw streams are cut so too
+abbrev pub StreamsAreCut : Type 0
+StreamsAreCut = (back : Back) → IsCutting (by_frames back)

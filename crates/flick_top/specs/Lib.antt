@@ -3,6 +3,7 @@ pub mod Coming
 pub mod Command
 pub mod File
 pub mod Fronts
+pub mod Giving
 pub mod Items
 pub mod Laws
 pub mod Made

@@ -11,7 +11,7 @@ use Rattle.flick_top.specs.Command.{command_of, AnswersItems, ReadsFiles}
 use Rattle.flick_top.specs.Made.{codes_of}
 use Rattle.flick_top.specs.Outside.{Input, Held, Fails}
 use Rattle.flick_top.specs.Status.{refused, usage, file_refused, source_failed, sink_failed, shelf_failed, out_of_memory, too_much}
-use Rattle.flick_top.specs.Task.{Task, items_of, ended_of, written, out_of, sent_of, exact_of}
+use Rattle.flick_top.specs.Task.{Task, items_of, ended_of, Stops, written, out_of, sent_of, exact_of}
 
 -- what was done of a task, whose answers are f, by the status
 pub record Done (task : Task) (f : Answering) (made : Option Coded) (left left' : Input) (before now : ℕ) (held held' : Held)
@@ -30,8 +30,9 @@ pub record Done (task : Task) (f : Answering) (made : Option Coded) (left left' 
       → (taken : List ℕ) × Consumes left left' taken × Appends held held' (written task f (ended_of task.feed taken))
   -- where no items are answered, nothing was taken of the source, which has not failed, nor given too much
   pub unread : task.feed ≡ None → Consumes left left' [] × (before ≡ now) × (status ≢ source_failed) × (status ≢ too_much)
-  -- where they are, and the work was done, the input is at its end
-  pub at_end : task.feed ≢ None → status ≤ refused → IsAtEnd left'
+  -- where they are, and the work was done, the input is at its end, or nothing more is read after what was taken
+  pub at_end : task.feed ≢ None → status ≤ refused
+      → IsAtEnd left' ⊎ ((taken : List ℕ) × Consumes left left' taken × Stops task.feed taken)
   -- the engine of the task is left, and each of its codes is that of its operation
   pub engine : made ≡ task.engine
   pub coded : IfSome made IsCoded

@@ -1,5 +1,5 @@
 -- Tasks: what is left to do of a command once its files are read, and what is then written and sent.
-use Rattle.std.specs.Prelude.{ℕ, List, [], ◌++◌, Bool, true, if◌then◌else◌, Option, Some, None}
+use Rattle.std.specs.Prelude.{◌≡◌, ℕ, List, [], ◌++◌, Bool, true, if◌then◌else◌, Option, Some, None}
 use Rattle.stub_codes.specs.Stubs.{Coded}
 use Rattle.flick_lines.specs.Sent.{Sending}
 use Rattle.flick_top.specs.declared.job.Job.{Job}
@@ -8,8 +8,9 @@ use Rattle.flick_top.specs.declared.saying.Saying.{Saying}
 use Rattle.flick_top.specs.declared.status.Status.{Status}
 use Rattle.flick_top.specs.declared.status.Status.TheVariants.{Done, Usage}
 use Rattle.flick_top.specs.declared.prepared.Prepared.{Prepared}
+pub use Rattle.flick_top.specs.Answer.{engine_in}
 use Rattle.flick_top.specs.Answer.{Answering, answers, refuses, sent_for, cutting_of, is_exact}
-use Rattle.flick_top.specs.Items.{Item}
+use Rattle.flick_top.specs.declared.items.Item.{Item}
 use Rattle.flick_top.specs.Saying.{said, ending}
 use Rattle.flick_top.specs.Status.{number_of, refused}
 
@@ -27,11 +28,6 @@ pub record Task : Type 0 where
   pub engine : Option Coded
 
 -- ---- tasks
-
--- the engine of a job
-abbrev pub engine_in : Job → Coded
-engine_in (jobs.Over verb e) = e
-engine_in (jobs.Serve s) = s.coded
 
 -- to say this, and no more, over an engine where there is one
 abbrev pub saying_task : Saying → Option Coded → Task
@@ -73,6 +69,11 @@ items_of (Some job) input = (cutting_of job).whole input
 abbrev pub ended_of : Option Job → List ℕ → List Item
 ended_of None octets = []
 ended_of (Some job) octets = (cutting_of job).ended octets
+
+-- after these octets of an input nothing more is read
+abbrev pub Stops : Option Job → List ℕ → Type 0
+Stops None octets = ⊥
+Stops (Some job) octets = (cutting_of job).stops octets ≡ true
 
 -- what is written, and the status
 pub record Out : Type 0 where

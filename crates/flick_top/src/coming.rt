@@ -103,6 +103,8 @@ fn acting<F: Shelf>(
 {
     match action {
         Action::Answer(verb) => Ok(answering(alloc, verb, engine)?),
+        Action::Pipe => Ok(Prepared::of_job(Octets::new(alloc), Job::Pipe(engine))),
+        Action::Unpipe => Ok(Prepared::of_job(Octets::new(alloc), Job::Unpipe(engine))),
         Action::Serve(replies) => serving(alloc, engine, word_at(words, replies), shelf),
         Action::Stubs => {
             let text = stubs_text(alloc, &engine)?;

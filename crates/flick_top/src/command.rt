@@ -39,6 +39,10 @@ pub enum Action {
     Answer(Verb),
     /// To answer messages by the replies of a second file, the place of whose word is given: `serve`
     Serve(usize),
+    /// To write the messages of the lines of the input, one after the other: `pipe`
+    Pipe,
+    /// To answer the messages of a raw stream by their records: `unpipe`
+    Unpipe,
     /// To write the stub code of each operation: `stubs`
     Stubs,
     /// To make requests from a number on, so many, and to write what is counted of their messages: `make`
@@ -170,6 +174,12 @@ fn last_action(word: &[u8]) -> Option<Action>
     }
     if word == b"count".as_slice() {
         return Some(Action::Answer(Verb::Count));
+    }
+    if word == b"pipe".as_slice() {
+        return Some(Action::Pipe);
+    }
+    if word == b"unpipe".as_slice() {
+        return Some(Action::Unpipe);
     }
     if word == b"stubs".as_slice() {
         return Some(Action::Stubs);

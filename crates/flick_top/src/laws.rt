@@ -1,6 +1,6 @@
 //! The laws of what is written, each the contract of a function that does nothing.
 
-ghost use Rattle.flick_top.specs.Laws.{BoundFilesLeaveEngines, LinesAreCut, OneOutput, OutputsAreWhole, WordsHaveTasks};
+ghost use Rattle.flick_top.specs.Laws.{BoundFilesLeaveEngines, LinesAreCut, OneOutput, OutputsAreWhole, StreamsAreCut, WordsHaveTasks};
 
 /// The words have one output over the files: whatever the task to which they come and the answers to its items, what is
 /// written over an input, and the status, are the same.
@@ -28,4 +28,9 @@ pub fn bound_files_leave_engines()
 /// The lines that have ended stay, whatever follows.
 pub fn lines_are_cut()
     ensures { LinesAreCut }
+{}
+
+/// The messages of a stream stay, whatever follows, and so does all of a stream with a fault.
+pub fn streams_are_cut()
+    ensures { StreamsAreCut }
 {}

@@ -2,13 +2,17 @@
 #![tactic(auto)]
 
 mod answer;
+mod answered;
 mod coming;
 mod command;
+mod cutter;
 mod file;
 mod fronts;
+mod items;
 mod job;
 mod laws;
 mod numbers;
+mod piped;
 mod prepared;
 mod saying;
 mod status;
@@ -17,6 +21,6 @@ mod turns;
 
 pub use laws::{
     bound_files_leave_engines, lines_are_cut, outputs_are_determined, outputs_are_whole,
-    words_have_tasks,
+    streams_are_cut, words_have_tasks,
 };
 pub use top::flick;

@@ -23,6 +23,11 @@ commands:\n\
 \x20                                message\n\
 \x20 unreply FRONT BACK FILE        answer each name of an operation, space and reply to it in\n\
 \x20                                hexadecimal digits by its reply record\n\
+\x20 pipe FRONT BACK FILE           write the message of each request record, one after the\n\
+\x20                                other, as raw octets; a line that marshal refuses adds\n\
+\x20                                none, and marshal says why\n\
+\x20 unpipe FRONT BACK FILE         answer each message of a raw stream by its request record,\n\
+\x20                                as soon as it is whole\n\
 \x20 count FRONT BACK FILE          write the stub code that sends each operation's requests,\n\
 \x20                                then answer as marshal, with what the code cost after the\n\
 \x20                                digits: checks, moves, stores and rows\n\

@@ -12,13 +12,13 @@ ghost use Rattle.flick_top.specs.Status.{number_of, sink_failed, source_failed};
 ghost use Rattle.flick_top.specs.Task.{answering_task, engine_in, engine_of, task_in};
 ghost use Rattle.flick_top.specs.Turn.{status_at, IsReady};
 
-use crate::answer::{answer_to, is_refusal};
+use crate::answer::answer_to;
+use crate::cutter::Cutter;
 use crate::job::Job;
 use crate::prepared::Prepared;
 use crate::status::Status;
 use json_shape::Scratch;
-use kit_base::limits::{LONGEST_LINE, MOST_INPUT};
-use kit_base::{Failed, LineErr, Lines, Sink, Source, write_whole};
+use kit_base::{Failed, LineErr, Sink, Source, write_whole};
 use raw_buf::SendBuf;
 use std::alloc::Global;
 
@@ -87,23 +87,21 @@ fn answer_items<S: Source, K: Sink>(
         (K.faults output.old) (K.faults output.new) (number_of result) }
     ensures others { (result ≢ Status.Usage) × (result ≢ Status.File) × (result ≢ Status.Shelf) }
 {
-    let mut lines = Lines::new(alloc, LONGEST_LINE, MOST_INPUT);
+    let mut items = Cutter::new(alloc, job);
     // What reading needs is made once, and not for each line.
     let mut scratch = Scratch::new(alloc);
     let mut refused = false;
     'turns: loop {
-        let line = match lines.next(input) {
-            Ok(line) => line,
+        let item = match items.next(input) {
+            Ok(Some(item)) => item,
+            Ok(None) => return finished(refused),
             Err(error) => return status_at(error),
         };
-        if line.is_end() {
-            return finished(refused);
-        }
-        let Ok(text) = answer_to(alloc, job, &line, &mut scratch, buf) else {
+        let Ok(answer) = answer_to(alloc, job, &item, &mut scratch, buf) else {
             return Status::Memory;
         };
-        refused = either(refused, is_refusal(text.as_slice()));
-        if let Err(Failed) = write_whole(output, text.as_slice()) {
+        refused = either(refused, answer.refused);
+        if let Err(Failed) = write_whole(output, answer.octets.as_slice()) {
             return Status::Sink;
         }
     }

@@ -2,7 +2,8 @@ use Rattle.std.proofs.Common.{ℕ, List, [], Some, sym, ap, ◌∙◌, subst}
 use Rattle.flick_top.specs.declared.command.Action.{Action}
 use Rattle.flick_top.specs.Coming.{Acts}
 use Rattle.flick_top.specs.Command.{IsOverItems}
-use Rattle.flick_top.specs.Task.{task_in, writing_task}
+use Rattle.flick_top.specs.declared.job.Job.TheVariants as jobs
+use Rattle.flick_top.specs.Task.{answering_task, task_in, writing_task}
 use Rattle.flick_top.proofs.OverFiles.{served-acts, made-acts}
 use Rattle.flick_top.proofs.Reading.{over_items}
 use Rattle.flick_top.proofs.Tasking.{is-in}
@@ -17,6 +18,20 @@ returns-in_ok-answering-in-Answer-clause-acts g c = λ files told.
     is-in (Acts c.args.action c.args.engine c.args.words.now files) p _
     (subst (λ (a : Action). Acts a c.args.engine c.args.words.now files (task_in p [])) (sym c.in-Answer.is)
     c.in_ok-answering-in-Answer.ensures.value)
+
+pub returns-in-Pipe-clause-acts : goal.returns-in-Pipe-clause-acts
+returns-in-Pipe-clause-acts g c = λ files told.
+    let p = c.of_job.result in
+    is-in (Acts c.args.action c.args.engine c.args.words.now files) p _
+    (subst (λ (a : Action). Acts a c.args.engine c.args.words.now files (task_in p [])) (sym c.in-Pipe.is)
+    (c.of_job.ensures.value ∙ ap (λ (t : List ℕ). answering_task t (jobs.Pipe c.args.engine)) c.new.ensures))
+
+pub returns-in-Unpipe-clause-acts : goal.returns-in-Unpipe-clause-acts
+returns-in-Unpipe-clause-acts g c = λ files told.
+    let p = c.of_job-in-Unpipe.result in
+    is-in (Acts c.args.action c.args.engine c.args.words.now files) p _
+    (subst (λ (a : Action). Acts a c.args.engine c.args.words.now files (task_in p [])) (sym c.in-Unpipe.is)
+    (c.of_job-in-Unpipe.ensures.value ∙ ap (λ (t : List ℕ). answering_task t (jobs.Unpipe c.args.engine)) c.new-in-Unpipe.ensures))
 
 pub returns-in-Serve-clause-acts : goal.returns-in-Serve-clause-acts
 returns-in-Serve-clause-acts g c =
