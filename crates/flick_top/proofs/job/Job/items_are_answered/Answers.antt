@@ -5,8 +5,16 @@ pub returns-in-Over : goal.returns-in-Over
 returns-in-Over c =
     all_items c.args.self.now (over_has c.args.self.now _ c.in-Over.engine c.in-Over.is c.lines_are_answered.ensures)
 
+pub returns-in-Pipe : goal.returns-in-Pipe
+returns-in-Pipe c =
+    all_items c.args.self.now (pipe_has c.args.self.now c.in-Pipe.engine c.in-Pipe.is c.lines_are_answered-in-Pipe.ensures)
+
+pub returns-in-Unpipe : goal.returns-in-Unpipe
+returns-in-Unpipe c =
+    all_items c.args.self.now (unpipe_has c.args.self.now c.in-Unpipe.engine c.in-Unpipe.is c.lines_are_answered-in-Unpipe.ensures)
+
 pub returns-in-Serve : goal.returns-in-Serve
 returns-in-Serve c =
     all_items c.args.self.now
     (serve_has c.args.self.now c.in-Serve.server _ c.in-Serve.is c.engine.ensures c.lines_are_answered-in-Serve.ensures
-    c.lines_are_answered-server.ensures)
+    c.lines_are_answered-in-Serve-2.ensures)
