@@ -76,7 +76,10 @@ fn request_of(
     let order = name_of(head.order);
     let key = digits(alloc, key)?;
     let name = digits(alloc, name)?;
-    Ok(format!(in alloc; "request {version}{} {wants} {order} {key} {name} {used}", head.id)?)
+    Ok(format!(in alloc;
+        "request {version}{} {wants} {order} {key} {name} {used}",
+        head.id
+    )?)
 }
 
 /// A search by its id and key.
