@@ -118,3 +118,10 @@ line_once b m text line a c (g, file, is) (h, file', is') =
     let same : h ≡ g = same_given h g (given_once b text (Ok h) (Ok g) file' file) in
     message_once b m (answer_of b g) (decode_of line) a c is
     (subst (λ (f : Given). IsOfMessage b m (answer_of b f) (decode_of line) c) same is')
+
+-- a dash where there is none
+pub silent_answer : {E : Type 0} (b : Binding) (m : ℕ) (answer : ℕ → Val) (message : List ℕ) (y : Result (List ℕ) E)
+    → Serves b m (gives (λ op request. answer op)) message None → IfOk y (λ o. o ≡ codes "-")
+    → IfOk y (λ o. IsOfMessage b m answer (Ok message) o)
+silent_answer b m answer message (Ok o) serves is = (None, serves, is)
+silent_answer b m answer message (Err e) serves is = tt
