@@ -53,6 +53,7 @@ use Rattle.flick_top.proofs.TwinTexts.{before_alike, stubs_alike, made_alike}
 pub record AreJobs (j k : Job) : Type 0 where
   pub texts : (octets a : List ℕ) → IsTextTo j octets a → IsTextTo k octets a
   pub twins : AreTwins (engine_in j).binding (engine_in k).binding
+  pub minors : (engine_in j).minor ≡ (engine_in k).minor
   pub cuts : cutting_of j ≡ cutting_of k
   pub written : (text : List ℕ) → written_of j text ≡ written_of k text
 
@@ -87,6 +88,7 @@ servers_alike d e alike minors text = record {
   texts = λ octets a is. served_over d.binding e.binding alike e.minor text octets a
       (subst (λ (m : ℕ). IsServed d.binding m text octets a) minors is);
   twins = alike;
+  minors = minors;
   cuts = refl;
   written = λ octets. refl;
 }
@@ -133,6 +135,7 @@ overs_alike : (v : Verb) (d e : Coded) → AreAlike (v ≡ Count) d e → AreJob
 overs_alike v d e alike = record {
   texts = λ octets a is. answer_over v d e alike.twins alike.minors (λ count. alike.codes count) octets a is;
   twins = alike.twins;
+  minors = alike.minors;
   cuts = refl;
   written = λ octets. refl;
 }
@@ -141,6 +144,7 @@ pipes_alike : (d e : Coded) → AreTwins d.binding e.binding → d.minor ≡ e.m
 pipes_alike d e twins minors = record {
   texts = λ octets a is. quiet_over Marshal (λ count. absurd (cc count)) d e twins minors octets a is;
   twins = twins;
+  minors = minors;
   cuts = refl;
   written = λ text. ap (λ (k : Back). frame_of k (decode_of text)) twins.backs;
 }
@@ -149,6 +153,7 @@ unpipes_alike : (d e : Coded) → AreTwins d.binding e.binding → d.minor ≡ e
 unpipes_alike d e twins minors = record {
   texts = λ octets a is. quiet_over Unmarshal (λ count. absurd (cc count)) d e twins minors octets a is;
   twins = twins;
+  minors = minors;
   cuts = ap by_frames twins.backs;
   written = λ text. refl;
 }
@@ -222,18 +227,19 @@ line_shown j k Long a b t is other =
     (record { octets = t.written (codes "! long"); refused = refl })
 line_shown j k End a b t is other = shown_by a b b b (is ∙ sym other) refl (record { octets = refl; refused = refl })
 
-part_over : (d e : Coded) → AreTwins d.binding e.binding → (p : Part) (o : List ℕ) → IsPartLine d p o → IsPartLine e p o
-part_over d e twins (part.Message message) o (text, is, same) =
-    (text, quiet_over Unmarshal (λ count. absurd (cc count)) d e twins (encode_lower message) text is, same)
-part_over d e twins (part.Fault fault) o is = is
-part_over d e twins part.Cut o is = is
+part_over : (d e : Coded) → AreTwins d.binding e.binding → d.minor ≡ e.minor → (p : Part) (o : List ℕ) → IsPartLine d p o
+    → IsPartLine e p o
+part_over d e twins minors (part.Message message) o (text, is, same) =
+    (text, quiet_over Unmarshal (λ count. absurd (cc count)) d e twins minors (encode_lower message) text is, same)
+part_over d e twins minors (part.Fault fault) o is = is
+part_over d e twins minors part.Cut o is = is
 
 item_shown : (j k : Job) (item : Item) (a b : Answer) → AreJobs j k → IsAnswer j item a → IsAnswer k item b → AreShown a b
 item_shown j k (items.Line line) a b t is other = line_shown j k line a b t is other
 item_shown j k (items.Part p) a b t (x, is, e) (y, also, f) =
     shown_by a b (answer_of x nothing) (answer_of y nothing) e f
     (text_shown x y nothing nothing
-    (one_part (engine_in k) p x y (part_over (engine_in j) (engine_in k) t.twins p x is) also))
+    (one_part (engine_in k) p x y (part_over (engine_in j) (engine_in k) t.twins t.minors p x is) also))
 
 -- answers of jobs that answer alike
 abbrev AreShownAlike : Answering → Answering → Type 0
