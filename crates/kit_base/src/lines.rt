@@ -134,7 +134,7 @@ impl Lines {
         ensures too_much { self.old.error ≡ None → result ≡ Err LineErr.TooMuch
             → self.new.most < self.new.taken }
         ensures within { self.old.error ≡ None → result ≢ Err LineErr.TooMuch
-            → result ≢ Err LineErr.NoMemory → self.new.taken ≤ self.new.most }
+            → self.new.taken ≤ self.new.most }
     {
         if let Some(error) = self.error {
             return Err(error);
@@ -159,8 +159,7 @@ impl Lines {
         ensures failed { result ≡ Err LineErr.Failed → Rose (S.faults source.old) (S.faults source.new)
             × HasNoEnd self.new.kept × (self.new.ended ≡ false) }
         ensures too_much { result ≡ Err LineErr.TooMuch → self.new.most < self.new.taken }
-        ensures within { result ≢ Err LineErr.TooMuch → result ≢ Err LineErr.NoMemory
-            → self.new.taken ≤ self.new.most }
+        ensures within { result ≢ Err LineErr.TooMuch → self.new.taken ≤ self.new.most }
         ensures falls { IfOk result (λ line. line ≢ Line.End → work self.new < work self.old) }
         ensures same { self.new.error ≡ self.old.error }
     {
