@@ -124,7 +124,7 @@ lines-ended c before now after s t given line end h more knows (none, ended) wit
 pub lines-failed : (c : Cutting) (before now after : Input) (s t : State) (given : List Item) (e : LineErr)
     → AreLines c s before now given → Advances now after s t [] → KnowsEnd t after
     → (e ≡ Failed → HasNoEnd t.kept × (t.ended ≡ false)) → (e ≡ TooMuch → t.most < t.taken)
-    → ((e ≡ TooMuch → ⊥) → (e ≡ NoMemory → ⊥) → t.taken ≤ t.most) → HasFailed c before after given e
+    → ((e ≡ TooMuch → ⊥) → t.taken ≤ t.most) → HasFailed c before after given e
 lines-failed c before now after s t given e h more knows failed over within =
     let (ls, is, advances) = h.lines in
     let both = none_more before now after (fresh longest_line most_input) s t ls [] refl advances more in
@@ -139,13 +139,12 @@ lines-failed c before now after s t given e h more knows failed over within =
       taken = (both.0, both.1);
       failed = λ which.
           let (none, unended) = failed which in
-          let few = within (λ f. absurd (cc (f, which))) (λ f. absurd (cc (f, which))) in
           let (got, consumed, passed) = both in
           let same = ended-lines (fresh longest_line most_input) t got ls longest_line most_input refl passed none unended in (
             got,
             consumed,
-            omega (arith, passed.count, passed.most, few),
             ap (λ (k : Cutting). k.ended got) h.cut ∙ ap (map items.Line) same ∙ sym is,
           );
+      within = λ other. took-within longest_line most_input before after t ls both (within other);
       more = λ which. took-more longest_line most_input before after t ls both (over which);
     }

@@ -196,26 +196,30 @@ parts-failed c before now after r t given errors.Failed h (advances, within, non
       failed = λ which. (
         s.fed,
         s.reached.consumed,
-        omega (arith, s.reached.count, s.reached.most, within),
         ap (λ (k : Cutting). k.ended s.fed) s.reached.cut
             ∙ ap messages_as (messages-ended t.back s.fed t.kept s.ms s.reached.given none) ∙ sym s.is,
       );
+      within = λ other. within_so c t before after given s within;
       more = λ which. absurd (cc which);
     }
-parts-failed c before now after r t given errors.TooMuch h (advances, over) =
-    let s = stood c before now after r t given h advances in
-    record {
-      begins = begins_so c t before after given s;
-      taken = (s.fed, s.reached.consumed);
-      failed = λ which. absurd (cc which);
-      more = λ which. (s.fed, s.reached.consumed, omega (arith, s.reached.count, s.reached.most, over));
-    }
-parts-failed c before now after r t given errors.NoMemory h (got, taken) =
+parts-failed c before now after r t given errors.TooMuch h (got, taken, over) =
     let (fed, ms, is, consumed, begun, count) = h.messages in
+    let all = Consumes-trans before now after fed got consumed taken in
     record {
       begins = (messages_begun c before now r given h).begins;
-      taken = (fed ++ got, Consumes-trans before now after fed got consumed taken);
+      taken = (fed ++ got, all);
       failed = λ which. absurd (cc which);
+      within = λ other. absurd (other refl);
+      more = λ which. (fed ++ got, all, omega (arith, length-append fed got, count, h.most, over));
+    }
+parts-failed c before now after r t given errors.NoMemory h (got, taken, few) =
+    let (fed, ms, is, consumed, begun, count) = h.messages in
+    let all = Consumes-trans before now after fed got consumed taken in
+    record {
+      begins = (messages_begun c before now r given h).begins;
+      taken = (fed ++ got, all);
+      failed = λ which. absurd (cc which);
+      within = λ other. (fed ++ got, all, omega (arith, length-append fed got, count, h.most, few));
       more = λ which. absurd (cc which);
     }
 

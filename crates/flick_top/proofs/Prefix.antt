@@ -59,5 +59,5 @@ pub wrote-ended : (c : Cutting) (before after : Input) (given : List Item) (e : 
     → HasFailed c before after given e → e ≡ Failed → Appends held held' (answers f given)
     → (taken : List ℕ) × Consumes before after taken × Appends held held' (answers f (c.ended taken))
 wrote-ended c before after given e f held held' h is wrote =
-    let (taken, consumed, few, same) = h.failed is in
+    let (taken, consumed, same) = h.failed is in
     (taken, consumed, subst (λ (l : List Item). Appends held held' (answers f l)) (sym same) wrote)

@@ -1,5 +1,5 @@
 -- What was given of an input, item by item, and how its reading ends.
-use Rattle.std.specs.Prelude.{◌≡◌, ◌⊎◌, ℕ, ◌<◌, ◌≤◌, Bool, true, false, List, [], ◌∷◌, ◌++◌, length, map, Option, Some, None, Result, Ok, Err, if◌then◌else◌}
+use Rattle.std.specs.Prelude.{◌≡◌, ◌≢◌, ◌⊎◌, ℕ, ◌<◌, ◌≤◌, Bool, true, false, List, [], ◌∷◌, ◌++◌, length, map, Option, Some, None, Result, Ok, Err, if◌then◌else◌}
 use Rattle.std.specs.Io.KnownBytes.{Consumes, IsAtEnd}
 use Rattle.kit_base.specs.Limits.{longest_line, most_input}
 use Rattle.kit_base.specs.declared.lines.Line.{Line}
@@ -43,7 +43,8 @@ pub record HasFailed (c : Cutting) (before after : Input) (given : List Item) (e
   pub begins : BeginsWith c before given
   pub taken : TakesPrefix before after
   -- where the source failed, they are those that ended in what was taken
-  pub failed : e ≡ Failed → (taken : List ℕ) × Consumes before after taken × (length taken ≤ most_input) × (c.ended taken ≡ given)
+  pub failed : e ≡ Failed → (taken : List ℕ) × Consumes before after taken × (c.ended taken ≡ given)
+  pub within : e ≢ TooMuch → TakesWithin before after
   pub more : e ≡ TooMuch → (taken : List ℕ) × Consumes before after taken × (most_input < length taken)
 
 -- ---- lines, and the parts of a stream

@@ -64,9 +64,9 @@ NeedsItems of words status = status ≡ of → AnswersItems (command_of words)
 abbrev pub TakesMore : Input → Input → ℕ → Type 0
 TakesMore left left' status = status ≡ too_much → (taken : List ℕ) × Consumes left left' taken × (most_input < length taken)
 
--- with any status up to that of a failed shelf at most the greatest input was taken
+-- with any other status at most the greatest input was taken
 abbrev pub TakesAtMost : Input → Input → ℕ → Type 0
-TakesAtMost left left' status = status ≤ shelf_failed → (taken : List ℕ) × Consumes left left' taken × (length taken ≤ most_input)
+TakesAtMost left left' status = status ≢ too_much → (taken : List ℕ) × Consumes left left' taken × (length taken ≤ most_input)
 
 -- without a command, and where a file was refused or the shelf failed, nothing was taken
 abbrev pub TakesNothing : Input → Input → ℕ → Type 0

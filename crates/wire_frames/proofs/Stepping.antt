@@ -150,17 +150,38 @@ gives-last before after old t u (Some p) (got, consumed, passed) within none end
     (subst (λ (s : Reader). Gives before after old s (Some part.Cut)) (sym same)
     ((got, consumed, passes-closed got old t true passed), within, refl, none, more_kept, end))
 
--- a read that failed, or for which there was no memory
-pub stops-so : (before mid after : Option (List ℕ)) (old f t : Reader) (e : LineErr) → (e ≡ errors.TooMuch → ⊥)
-    → (e ≡ errors.Failed → (t ≡ f) × Keeps mid after) → ((got : List ℕ) × Consumes mid after got) → Advances before mid old f []
+-- a read that failed, or of which more came than there is room or memory for
+pub stops-so : (before mid after : Option (List ℕ)) (old f t : Reader) (e : LineErr)
+    → (e ≡ errors.Failed → (t ≡ f) × Keeps mid after)
+    → (e ≡ errors.NoMemory → (got : List ℕ) × Consumes mid after got × (f.taken + length got ≤ f.most))
+    → (e ≡ errors.TooMuch → (got : List ℕ) × Consumes mid after got × (f.most < f.taken + length got)) → Advances before mid old f []
     → IsWithin f → first f.back f.kept ≡ more → Stops before after old t e
-stops-so before mid after old f t errors.Failed other failed taken (got, consumed, passed) within none =
+stops-so before mid after old f t errors.Failed failed few much (got, consumed, passed) within none =
     let (same, keeps) = failed refl in
     subst (λ (s : Reader). Stops before after old s errors.Failed) (sym same)
     ((got, Consumes-kept before mid after got consumed keeps, passed), within, none)
-stops-so before mid after old f t errors.TooMuch other failed taken advances within none = absurd (other refl)
-stops-so before mid after old f t errors.NoMemory other failed (more_got, taken) (got, consumed, passed) within none =
-    (got ++ more_got, Consumes-trans before mid after got more_got consumed taken)
+stops-so before mid after old f t errors.TooMuch failed few much (got, consumed, passed) within none =
+    let (more_got, taken, over) = much refl in (
+      got ++ more_got,
+      Consumes-trans before mid after got more_got consumed taken,
+      omega (arith, passed.count, passed.most, over, length-append got more_got),
+    )
+stops-so before mid after old f t errors.NoMemory failed few much (got, consumed, passed) within none =
+    let (more_got, taken, room) = few refl in (
+      got ++ more_got,
+      Consumes-trans before mid after got more_got consumed taken,
+      omega (arith, passed.count, passed.most, room, length-append got more_got),
+    )
+
+-- more was taken than may be
+pub stops-over : (before after : Option (List ℕ)) (old t : Reader) → Advances before after old t [] → t.most < t.taken
+    → Stops before after old t errors.TooMuch
+stops-over before after old t (got, consumed, passed) over = (got, consumed, omega (arith, passed.count, passed.most, over))
+
+-- no memory to find what stands at the front
+pub stops-unfound : (before after : Option (List ℕ)) (old r t : Reader) → t ≡ r → Advances before after old r [] → IsWithin r
+    → Stops before after old t errors.NoMemory
+stops-unfound before after old r t same (got, consumed, passed) within = (got, consumed, omega (arith, passed.count, passed.most, within))
 
 -- ---- the measure
 

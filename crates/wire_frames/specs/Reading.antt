@@ -74,8 +74,8 @@ Gives before after old new None = Advances before after old new [] × IsWithin n
 -- what was done by a call that ends with this error
 abbrev pub Stops : Option (List ℕ) → Option (List ℕ) → Reader → Reader → LineErr → Type 0
 Stops before after old new errors.Failed = Advances before after old new [] × IsWithin new × (first new.back new.kept ≡ more)
-Stops before after old new errors.TooMuch = Advances before after old new [] × (new.most < new.taken)
-Stops before after old new errors.NoMemory = (got : List ℕ) × Consumes before after got
+Stops before after old new errors.TooMuch = (got : List ℕ) × Consumes before after got × (old.most < old.taken + length got)
+Stops before after old new errors.NoMemory = (got : List ℕ) × Consumes before after got × (old.taken + length got ≤ old.most)
 
 -- what was done by a call with this answer
 abbrev pub Reads : Option (List ℕ) → Option (List ℕ) → Reader → Reader → Result (Option Part) LineErr → Type 0

@@ -180,20 +180,33 @@ impl Messages {
         // When it fails.
         ensures none { result ≡ Err LineErr.Failed → (self.new ≡ self.old)
             × Keeps (S.left source.old) (S.left source.new) }
-        ensures taken { OnErr result ((got : List ℕ) × Consumes (S.left source.old) (S.left source.new) got) }
+        ensures few { result ≡ Err LineErr.NoMemory → (got : List ℕ)
+            × Consumes (S.left source.old) (S.left source.new) got
+            × (self.old.taken + length got ≤ self.old.most) }
+        ensures too_much { result ≡ Err LineErr.TooMuch → (got : List ℕ)
+            × Consumes (S.left source.old) (S.left source.new) got
+            × (self.old.most < self.old.taken + length got) }
         ensures later { S.faults source.old ≤ S.faults source.new }
         ensures reported { result ≢ Err LineErr.Failed → S.faults source.old ≡ S.faults source.new }
         ensures failed { result ≡ Err LineErr.Failed → Rose (S.faults source.old) (S.faults source.new) }
-        ensures too_much { result ≢ Err LineErr.TooMuch }
     {
         if self.piece.resize(PIECE, 0).is_err() {
             return Err(LineErr::NoMemory);
         }
-        let wanted = (self.most + 1 - self.taken).min(PIECE as u64) as usize;
+        let room = self.most - self.taken;
+        let wanted = (room + 1).min(PIECE as u64) as usize;
         let piece = &mut self.piece.as_mut_slice()[..wanted];
-        let count = fed_from(source, piece, &mut self.frames)?;
-        self.taken += count as u64;
-        Ok(count)
+        match fed_from(source, piece, room, &mut self.frames) {
+            Ok(count) => {
+                self.taken += count as u64;
+                Ok(count)
+            }
+            Err(LineErr::TooMuch) => {
+                self.taken = self.most + 1;
+                Err(LineErr::TooMuch)
+            }
+            Err(error) => Err(error),
+        }
     }
 }
 

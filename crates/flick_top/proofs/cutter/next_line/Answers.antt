@@ -17,7 +17,7 @@ returns-in_err-line-clause-goes g c =
     (λ k before given h. lines-failed k before _ _ c.args.lines.now c.next.new.self given error h c.in_err-line.ensures.lines
     (c.next.ensures.knows_end h.knows_end)
     (λ f. let r = c.in_err-line.ensures.failed h.fine (ap Err f) in (r.1, r.2)) (λ f. c.in_err-line.ensures.too_much h.fine (ap Err f))
-    (λ other more. c.in_err-line.ensures.within h.fine (λ e. other (cc e)) (λ e. more (cc e))))
+    (λ other. c.in_err-line.ensures.within h.fine (λ e. other (cc e))))
 
 pub returns-then-is_end-clause-goes : goal.returns-then-is_end-clause-goes
 returns-then-is_end-clause-goes g c = λ k before given h.

@@ -108,10 +108,10 @@ returns-in-Err-clause-more g c = λ eight.
     (c.in-Err.ensures.goes _ _ given so).more (too_much-of c.in-Err.error (ap number_of (sym c.status_at.ensures) ∙ eight))
 
 pub returns-in-Err-clause-at_most : goal.returns-in-Err-clause-at_most
-returns-in-Err-clause-at_most g c = λ six.
+returns-in-Err-clause-at_most g c = λ other.
     let (given, so, written) = c.turns.invariant.answered in
-    let error : c.in-Err.error ≡ Failed = failed-of c.in-Err.error (omega (arith, ap number_of c.status_at.ensures, six)) in
-    let (taken, consumed, few, same) = (c.in-Err.ensures.goes _ _ given so).failed error in (taken, consumed, few)
+    (c.in-Err.ensures.goes _ _ given so).within
+    (λ e. other (ap number_of c.status_at.ensures ∙ ap (λ (x : LineErr). number_of (status_at x)) e))
 
 pub returns-in-Err-clause-source : goal.returns-in-Err-clause-source
 returns-in-Err-clause-source g c = λ four.
@@ -146,7 +146,7 @@ returns-in-Ok-None-clause-taken g c =
     (ended.taken.0, ended.taken.1)
 
 pub returns-in-Ok-None-clause-at_most : goal.returns-in-Ok-None-clause-at_most
-returns-in-Ok-None-clause-at_most g c = λ six.
+returns-in-Ok-None-clause-at_most g c = λ other.
     let (given, so, written) = c.turns.invariant.answered in
     (came-to-end _ _ _ _ _ c.in-Ok-None.field-0-is c.in-Ok-None.ensures.goes _ _ given so).taken
 
@@ -169,6 +169,12 @@ returns-in_default-clause-taken g c =
     let (given, so, written) = c.turns.invariant.answered in
     let on = went-on _ _ _ _ _ c.in-Ok-Some.item c.in-Ok-Some.field-0-is c.in-Ok-Some.ensures.goes _ _ given so in
     let begun = given-begun _ _ _ _ (given ++ c.in-Ok-Some.item ∷ []) on in (begun.taken.0, begun.taken.1)
+
+pub returns-in_default-clause-at_most : goal.returns-in_default-clause-at_most
+returns-in_default-clause-at_most g c = λ other.
+    let (given, so, written) = c.turns.invariant.answered in
+    let on = went-on _ _ _ _ _ c.in-Ok-Some.item c.in-Ok-Some.field-0-is c.in-Ok-Some.ensures.goes _ _ given so in
+    (given-begun _ _ _ _ (given ++ c.in-Ok-Some.item ∷ []) on).taken
 
 pub returns-in_default-clause-source_reported : goal.returns-in_default-clause-source_reported
 returns-in_default-clause-source_reported g c = λ other. c.turns.invariant.reads ∙ c.in-Ok-Some.ensures.reported (λ e. absurd (cc e))
@@ -198,7 +204,7 @@ returns-in-Err-write_whole-clause-taken g c =
     let begun = given-begun _ _ _ _ (given ++ c.in-Ok-Some.item ∷ []) on in (begun.taken.0, begun.taken.1)
 
 pub returns-in-Err-write_whole-clause-at_most : goal.returns-in-Err-write_whole-clause-at_most
-returns-in-Err-write_whole-clause-at_most g c = λ six.
+returns-in-Err-write_whole-clause-at_most g c = λ other.
     let (given, so, written) = c.turns.invariant.answered in
     let on = went-on _ _ _ _ _ c.in-Ok-Some.item c.in-Ok-Some.field-0-is c.in-Ok-Some.ensures.goes _ _ given so in
     (given-begun _ _ _ _ (given ++ c.in-Ok-Some.item ∷ []) on).taken

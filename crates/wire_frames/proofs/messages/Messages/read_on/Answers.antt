@@ -1,6 +1,6 @@
 use Rattle.std.proofs.Common.{◌≡◌, ◌≤◌, refl, sym, ap, ◌∙◌, subst, arith, Err}
 use Rattle.wire_frames.specs.Reading.{Reader, work}
-use Rattle.wire_frames.proofs.Stepping.{advances-refl, advances-fed, gives-found, still, kept-same, same-first, gives-last, stops-so, falls-found, fewer-fed, falls-last}
+use Rattle.wire_frames.proofs.Stepping.{advances-refl, advances-fed, gives-found, still, kept-same, same-first, gives-last, stops-so, stops-over, stops-unfound, falls-found, fewer-fed, falls-last}
 use Rattle.wire_frames.proofs.messages.Messages.read_on.Goals as goal
 
 pub returns-in-Ok-Some-clause-reads : goal.returns-in-Ok-Some-clause-reads
@@ -21,8 +21,8 @@ returns-in-Err-refill-clause-reads g c =
     (sym c.in-Ok-None.field-0-is ∙ c.in-Ok-None.ensures.value) c.in-Ok-None.ensures.kept c.loop-self.invariant.read
     (c.took_more.ensures.within c.if-took_more.false) in
     stops-so _ _ _ _ c.found.new.self c.refill.new.self c.in-Err-refill.error
-    (λ e. c.refill.ensures.too_much (c.in-Err-refill.is ∙ ap Err e)) (λ e. c.refill.ensures.none (c.in-Err-refill.is ∙ ap Err e))
-    c.in-Err-refill.ensures.taken advances within none
+    (λ e. c.refill.ensures.none (c.in-Err-refill.is ∙ ap Err e)) (λ e. c.refill.ensures.few (c.in-Err-refill.is ∙ ap Err e))
+    (λ e. c.refill.ensures.too_much (c.in-Err-refill.is ∙ ap Err e)) advances within none
 
 pub returns-then-count-eq0-clause-reads : goal.returns-then-count-eq0-clause-reads
 returns-then-count-eq0-clause-reads g c =
