@@ -20,7 +20,7 @@ pub(crate) fn fed_from<S: Source>(
     ensures got { OnOk result (Consumes (S.left source.old) (S.left source.new)
         (drop (length frames.old.kept) frames.new.kept)) }
     ensures count { IfOk result (λ n. (length frames.new.kept ≡ length frames.old.kept + n)
-        × (n ≤ length piece.old) × (n ≤ room.now)) }
+        × (n ≤ length piece.old) × (n ≤ room)) }
     ensures back { frames.new.back ≡ frames.old.back }
     ensures none { OnErr result (frames.new ≡ frames.old) }
     // When the source is at its end.
@@ -28,9 +28,9 @@ pub(crate) fn fed_from<S: Source>(
     // When it fails.
     ensures unread { result ≡ Err LineErr.Failed → Keeps (S.left source.old) (S.left source.new) }
     ensures few { result ≡ Err LineErr.NoMemory → (got : List ℕ)
-        × Consumes (S.left source.old) (S.left source.new) got × (length got ≤ room.now) }
+        × Consumes (S.left source.old) (S.left source.new) got × (length got ≤ room) }
     ensures too_much { result ≡ Err LineErr.TooMuch → (got : List ℕ)
-        × Consumes (S.left source.old) (S.left source.new) got × (room.now < length got) }
+        × Consumes (S.left source.old) (S.left source.new) got × (room < length got) }
     ensures later { S.faults source.old ≤ S.faults source.new }
     ensures reported { result ≢ Err LineErr.Failed → S.faults source.old ≡ S.faults source.new }
     ensures failed { result ≡ Err LineErr.Failed → Rose (S.faults source.old) (S.faults source.new) }
