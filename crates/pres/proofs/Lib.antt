@@ -32,10 +32,6 @@ pub mod Faulty
 pub mod Building
 -- * Each sound unit that has no reason against it has a binding
 pub mod Existing
--- * The operations of a binding are few, by induction on the interfaces
-pub mod Counting
--- * Operations of one interface and name have one type in each binding, by induction on the interfaces
-pub mod Pairing
 -- * Items that are found by their names and by their numbers, by induction on the items
 pub mod Tabled
 -- * Exceptions that are found by their names, by induction on the exceptions and on the operations

@@ -2,8 +2,6 @@ pub mod Faces
 pub mod Named
 pub mod Offers
 pub mod Bindings
-pub mod Exchanges
-pub mod Pairs
 pub mod Made
 pub mod Faults
 pub mod Drafts

@@ -4,7 +4,7 @@ use Rattle.std.specs.List.{position_from}
 use Rattle.std.specs.Str.{bytes_eq}
 use Rattle.pres.specs.declared.ops.Op.{Op}
 use Rattle.pres.specs.Bindings.{Binding}
-use Rattle.pres.specs.Exchanges.{request_type, reply_type}
+use Rattle.skeleton.specs.Exchanges.{request_type, reply_type}
 
 -- an operation of an interface, by its name
 abbrev pub is_named : ℕ → List ℕ → Op → Bool

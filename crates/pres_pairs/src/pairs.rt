@@ -2,9 +2,9 @@
 
 ghost use Rattle.std.specs.Prelude.{◌≡◌, ◌<◌, ◌^◌, length};
 ghost use Rattle.std.specs.List.{position_from};
-ghost use Rattle.pres.specs.Pairs.{is_named, is_number, number_of, pair_of};
+ghost use Rattle.pres_pairs.specs.Pairs.{is_named, is_number, number_of, pair_of};
 
-use crate::{Bound, Op};
+use pres::{Bound, Op};
 
 /// The operations of a binding are few. It does nothing.
 fn operations_are_few(bound: &Bound)

@@ -1,5 +1,5 @@
 -- The operations of a binding are few, by induction on the interfaces.
-use Rattle.std.proofs.Common.{◌≡◌, ◌+◌, ◌*◌, ◌^◌, ◌<◌, ◌≤◌, ℕ, suc, Bool, true, false, List, [], ◌∷◌, ◌++◌, map, length, length-append, if◌then◌else◌, ap, arith}
+use Rattle.std.proofs.Common.{◌≡◌, ◌*◌, ◌^◌, ◌<◌, ◌≤◌, ℕ, suc, Bool, true, false, List, [], ◌∷◌, map, length, length-append, if◌then◌else◌, ap, arith}
 use Rattle.std.proofs.lemmas.List.{length-map}
 use Rattle.kit_base.specs.Limits.{most_interfaces}
 use Rattle.wire_def.specs.declared.encoding.Back.{Back}

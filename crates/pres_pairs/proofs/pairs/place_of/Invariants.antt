@@ -1,7 +1,7 @@
 use Rattle.std.proofs.Common.{◌≡◌, drop}
 use Rattle.std.specs.List.{position_from}
-use Rattle.pres.specs.Pairs.{is_named}
-use Rattle.pres.proofs.pairs.place_of.Given as goal
+use Rattle.pres_pairs.specs.Pairs.{is_named}
+use Rattle.pres_pairs.proofs.pairs.place_of.Given as goal
 
 -- the first place among all operations is that among those that are left
 abbrev pub invariant-loop-op : goal.invariant-loop-op

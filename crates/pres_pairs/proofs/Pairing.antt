@@ -3,7 +3,7 @@ use Rattle.std.proofs.Common.{◌≡◌, ◌+◌, ◌<◌, Bool, true, false, co
 use Rattle.std.specs.Prelude.{◌==◌, ◌&&◌, slice_get, slice_index_or}
 use Rattle.std.specs.List.{position_from}
 use Rattle.std.specs.Str.{bytes_eq}
-use Rattle.std.proofs.lemmas.Bool.{eqb-true, eqb-false}
+use Rattle.std.proofs.lemmas.Bool.{eqb-true}
 use Rattle.std.proofs.lemmas.List.{map-append}
 use Rattle.std.proofs.lemmas.Slice.Eq.{bytes_eq-Decides}
 use Rattle.mint.specs.Types.{type_at}
@@ -11,11 +11,11 @@ use Rattle.wire_def.specs.declared.encoding.Back.{Back}
 use Rattle.aoi.specs.Plain.{PlainOperation, PlainInterface, PlainUnit}
 use Rattle.pres.specs.declared.ops.Op.{Op}
 use Rattle.pres.specs.Bindings.{Binding, IsBinding}
-use Rattle.pres.specs.Exchanges.{request_type, reply_type}
+use Rattle.skeleton.specs.Exchanges.{request_type, reply_type}
 use Rattle.pres.specs.Faces.{Face, faces, type_of}
-use Rattle.pres.specs.Laws.{PairsHaveOneType}
+use Rattle.pres_pairs.specs.Laws.{PairsHaveOneType}
 use Rattle.pres.specs.Offers.{Offer, null_operation, gets_null, gotten, operations, offer, offers_from, offers, offer_at, type_faces}
-use Rattle.pres.specs.Pairs.{ArePaired, is_named, is_number, number_of, pair_at}
+use Rattle.pres_pairs.specs.Pairs.{ArePaired, is_named, is_number, number_of, pair_at}
 use Rattle.pres.proofs.Facing.{type_at-face}
 
 -- ---- the first element that passes a test

@@ -1,5 +1,0 @@
-use Rattle.pres.proofs.Pairing.{pairs_have_one_type}
-use Rattle.pres.proofs.laws.bindings_have_one_type.Goals as goal
-
-pub returns : goal.returns
-returns c = pairs_have_one_type
