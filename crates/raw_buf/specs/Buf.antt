@@ -33,6 +33,15 @@ stored t = record t { stores = raised t.stores 1 }
 abbrev pub rowed : Tally → Tally
 rowed t = record t { rows = raised t.rows 1 }
 
+-- counts that are raised by others
+abbrev pub together : Tally → Tally → Tally
+together t more = record {
+  checks = raised t.checks more.checks;
+  moves = raised t.moves more.moves;
+  stores = raised t.stores more.stores;
+  rows = raised t.rows more.rows;
+}
+
 -- no count is less than it was
 pub record NoneFell (old new : Tally) : Type 0 where
   pub checks : old.checks ≤ new.checks

@@ -1,13 +1,14 @@
 //! The buffer.
 
-ghost use Rattle.std.specs.Prelude.{◌≡◌, ◌<◌, ◌≤◌, ◌+◌, ◌-◌, ◌%◌, ◌^◌, [], ◌++◌, length, take, drop, replicate, OnOk, OnErr, IfOk};
+ghost use Rattle.std.specs.Prelude.{◌≡◌, ◌<◌, ◌≤◌, ◌+◌, ◌-◌, ◌%◌, ◌^◌, [], ◌++◌, length, take, drop, max, replicate, OnOk, OnErr, IfOk};
 ghost use Rattle.kit_base.specs.Bytes.{written};
 ghost use Rattle.wire_def.specs.Scalars.{gap};
 ghost use Rattle.kit_swap.specs.Swapped.{swapped, IsSwapWidth};
-ghost use Rattle.raw_buf.specs.Buf.{Ensures, moved, stored, rowed, none};
+ghost use Rattle.raw_buf.specs.Buf.{Ensures, checked, moved, stored, rowed, none};
 ghost use Rattle.wire_def.specs.Orders.{IsWidth, in_order};
 
 use crate::Tally;
+use crate::tally::together;
 use kit_base::NoMemory;
 use raw_mem::RawMem;
 use std::alloc::Global;
@@ -25,16 +26,16 @@ pub struct SendBuf {
     len: usize,
     ahead: usize,
     tally: Tally,
-    spent: Tally,
+    earlier: Tally,
 }
 
 impl Model for SendBuf {
     ghost use Rattle.std.specs.Prelude.{◌≤◌, ◌<◌, ◌^◌, ◌+◌, take, drop, length};
-    ghost use Rattle.raw_buf.specs.Buf.{Buf};
+    ghost use Rattle.raw_buf.specs.Buf.{Buf, together};
 
     ghost Value = { Buf };
 
-    ghost view = { λ b. record { done = take b.len b.memory; front = take b.ahead (drop b.len b.memory); tally = b.tally; spent = b.spent } };
+    ghost view = { λ b. record { done = take b.len b.memory; front = take b.ahead (drop b.len b.memory); tally = b.tally; spent = together b.earlier b.tally } };
 
     ghost invariant = { λ b. (b.len + b.ahead ≤ length b.memory) × (length b.memory < 2 ^ 63) };
 }
@@ -57,13 +58,29 @@ impl SendBuf {
             len: 0,
             ahead: 0,
             tally: NOTHING,
-            spent: NOTHING,
+            earlier: NOTHING,
         })
     }
 
     /// Ensures at least n octets after those that are done. Out of memory, nothing changes.
     pub fn ensure(&mut self, n: usize) -> Result<(), NoMemory>
         ensures ok { OnOk result (Ensures n self.old self.new) }
+        ensures err { OnErr result (self.new ≡ self.old) }
+    {
+        self.make_room(n)?;
+        self.count_check();
+        Ok(())
+    }
+
+    /// Makes room for n octets after those that are done, at no cost.
+    fn make_room(&mut self, n: usize) -> Result<(), NoMemory>
+        // What is there.
+        ensures done { OnOk result (self.new.done ≡ self.old.done) }
+        ensures kept { OnOk result (take (length self.old.front) self.new.front ≡ self.old.front) }
+        ensures ahead { OnOk result (length self.new.front ≡ max n (length self.old.front)) }
+        // What stays the same.
+        ensures tally { OnOk result (self.new.tally ≡ self.old.tally) }
+        ensures spent { OnOk result (self.new.spent ≡ self.old.spent) }
         ensures err { OnErr result (self.new ≡ self.old) }
     {
         if n > self.ahead {
@@ -75,13 +92,12 @@ impl SendBuf {
             }
             self.ahead = n;
         }
-        self.tally.checks = self.tally.checks.saturating_add(1);
-        self.spent.checks = self.spent.checks.saturating_add(1);
         Ok(())
     }
 
     /// Stores a number in `width` octets at an offset from the cursor, in the space that is
     /// ensured.
+    #[inline(always)]
     pub fn put(&mut self, off: usize, width: usize, order: Order, v: u64)
         // What is put.
         requires width { IsWidth width }
@@ -99,6 +115,7 @@ impl SendBuf {
     }
 
     /// Stores octets at an offset from the cursor, in the space that is ensured.
+    #[inline(always)]
     pub fn put_const(&mut self, off: usize, octets: &[u8])
         requires { off + length octets.now ≤ length self.old.front }
         ensures done { self.new.done ≡ self.old.done }
@@ -111,6 +128,7 @@ impl SendBuf {
     }
 
     /// Moves the first n octets of the space to those that are done.
+    #[inline(always)]
     pub fn advance(&mut self, n: usize)
         requires { n ≤ length self.old.front }
         ensures done { self.new.done ≡ self.old.done ++ take n self.old.front }
@@ -120,7 +138,6 @@ impl SendBuf {
     {
         self.pass(n);
         self.tally.moves = self.tally.moves.saturating_add(1);
-        self.spent.moves = self.spent.moves.saturating_add(1);
     }
 
     /// Appends zeros up to a multiple of a.
@@ -180,7 +197,7 @@ impl SendBuf {
     pub fn spent(&self) -> Tally
         ensures { result ≡ self.now.spent }
     {
-        self.spent
+        together(self.earlier, self.tally)
     }
 
     /// Begins anew. What was spent, and the memory, are kept.
@@ -188,12 +205,14 @@ impl SendBuf {
         ensures { self.new
             ≡ record { done = []; front = []; tally = none; spent = self.old.spent } }
     {
+        self.earlier = together(self.earlier, self.tally);
         self.len = 0;
         self.ahead = 0;
         self.tally = NOTHING;
     }
 
     /// Moves the cursor over the first n octets of the space, at no cost.
+    #[inline(always)]
     pub(crate) fn pass(&mut self, n: usize)
         requires { n ≤ length self.old.front }
         ensures done { self.new.done ≡ self.old.done ++ take n self.old.front }
@@ -206,6 +225,7 @@ impl SendBuf {
     }
 
     /// Stores octets at an offset, at no cost.
+    #[inline(always)]
     pub(crate) fn store(&mut self, off: usize, octets: &[u8])
         requires { off + length octets.now ≤ length self.old.front }
         ensures done { self.new.done ≡ self.old.done }
@@ -218,6 +238,7 @@ impl SendBuf {
     }
 
     /// Stores a number at an offset, at no cost.
+    #[inline(always)]
     fn store_word(&mut self, off: usize, width: usize, order: Order, v: u64)
         // What is put.
         requires width { IsWidth width }
@@ -275,6 +296,15 @@ impl SendBuf {
         write_at(&mut self.memory, at, octets);
     }
 
+    fn count_check(&mut self)
+        ensures done { self.new.done ≡ self.old.done }
+        ensures front { self.new.front ≡ self.old.front }
+        ensures tally { self.new.tally ≡ checked self.old.tally }
+        ensures spent { self.new.spent ≡ checked self.old.spent }
+    {
+        self.tally.checks = self.tally.checks.saturating_add(1);
+    }
+
     /// Counts a row.
     pub(crate) fn count_row(&mut self)
         ensures done { self.new.done ≡ self.old.done }
@@ -283,9 +313,9 @@ impl SendBuf {
         ensures spent { self.new.spent ≡ rowed self.old.spent }
     {
         self.tally.rows = self.tally.rows.saturating_add(1);
-        self.spent.rows = self.spent.rows.saturating_add(1);
     }
 
+    #[inline(always)]
     fn count_store(&mut self)
         ensures done { self.new.done ≡ self.old.done }
         ensures front { self.new.front ≡ self.old.front }
@@ -293,7 +323,6 @@ impl SendBuf {
         ensures spent { self.new.spent ≡ stored self.old.spent }
     {
         self.tally.stores = self.tally.stores.saturating_add(1);
-        self.spent.stores = self.spent.stores.saturating_add(1);
     }
 }
 
@@ -307,14 +336,41 @@ fn swap_at(memory: &mut RawMem, at: usize, width: usize, image: &[u8])
     memory.copy_swapped(at, width, image);
 }
 
+// Writes octets at a place: one store or two, where they are as many as a number may have.
+#[inline(always)]
 fn write_at(memory: &mut RawMem, at: usize, octets: &[u8])
     requires { at + length octets.now ≤ length memory.old }
     ensures { memory.new ≡ written memory.old at octets.now }
 {
-    memory.copy(at, octets);
+    match octets.len() {
+        1 => write_array::<1>(memory, at, octets),
+        2 => write_array::<2>(memory, at, octets),
+        3 => write_array::<3>(memory, at, octets),
+        4 => write_array::<4>(memory, at, octets),
+        5 => write_array::<5>(memory, at, octets),
+        6 => write_array::<6>(memory, at, octets),
+        7 => write_array::<7>(memory, at, octets),
+        8 => write_array::<8>(memory, at, octets),
+        _ => memory.copy(at, octets),
+    }
+}
+
+// Writes octets of a known number at a place.
+#[inline(always)]
+fn write_array<const N: usize>(memory: &mut RawMem, at: usize, octets: &[u8])
+    requires some { 0 < N }
+    requires long { length octets.now ≡ N }
+    requires within { at + N ≤ length memory.old }
+    ensures { memory.new ≡ written memory.old at octets.now }
+{
+    match octets.first_chunk::<N>() {
+        Some(array) => memory.store(at, *array),
+        None => unreachable!(),
+    }
 }
 
 // Writes a number at a place: one store, since each arm knows the width.
+#[inline(always)]
 fn write_word(memory: &mut RawMem, at: usize, width: usize, order: Order, v: u64)
     requires width { IsWidth width }
     requires within { at + width ≤ length memory.old }
