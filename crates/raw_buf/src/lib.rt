@@ -5,6 +5,7 @@
 mod buffer;
 mod laws;
 mod rows;
+mod storing;
 mod tally;
 mod view;
 mod words;
