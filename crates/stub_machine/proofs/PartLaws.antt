@@ -1,5 +1,5 @@
 -- Parts of a value, and of its tree, by induction on the list of values.
-use Rattle.std.proofs.Common.{◌≡◌, ℕ, zero, suc, ◌+◌, ◌<◌, List, [], ◌∷◌, length, drop, get_or, Option, Some, None, option_map, slice_get, Bor, refl, sym, ap, ◌∙◌, add-one}
+use Rattle.std.proofs.Common.{◌≡◌, ℕ, zero, suc, ◌+◌, ◌<◌, List, [], ◌∷◌, length, drop, get_or, Option, Some, None, option_map, slice_get, Bor, refl, sym, ap, ◌∙◌, add-one, arith}
 use Rattle.std.specs.Option.{option_copied}
 use Rattle.std.proofs.Math.Seq.{drop-cons}
 use Rattle.mint.specs.declared.value.Value.{Value}
@@ -30,4 +30,25 @@ field_found vs n r e = copied r ∙ ap (option_map seen) e ∙ sym (field-all_se
 pub at-drop : (p : List ℕ) (i : ℕ) (v : Val) → i < length p → at (drop i p) v ≡ on_some (in_group (get_or p i 0) v) (at (drop (i + 1) p))
 at-drop p i v h = rw (add-one, drop-cons p i 0) refl
 
-pub ruleset parts = (count-all_seen, field_found, at-drop)
+whole_again : (o : Option Val) → on_some o (at []) ≡ o
+whole_again None = refl
+whole_again (Some v) = refl
+
+-- a path of one field
+pub at_one : (p : List ℕ) (v : Val) → length p ≡ 1 → at p v ≡ in_group (get_or p 0 0) v
+at_one [] v h = absurd (omega (arith, h))
+at_one (n ∷ []) v h = whole_again (in_group n v)
+at_one (n ∷ m ∷ p) v h = absurd (omega (arith, h))
+
+within_again : (o : Option Val) (n : ℕ) → on_some o (at (n ∷ [])) ≡ on_some o (in_group n)
+within_again None n = refl
+within_again (Some v) n = whole_again (in_group n v)
+
+-- a path of a field within a field
+pub at_two : (p : List ℕ) (v : Val) → length p ≡ 2 → at p v ≡ on_some (in_group (get_or p 0 0) v) (in_group (get_or p 1 0))
+at_two [] v h = absurd (omega (arith, h))
+at_two (n ∷ []) v h = absurd (omega (arith, h))
+at_two (n ∷ m ∷ []) v h = within_again (in_group n v) m
+at_two (n ∷ m ∷ k ∷ p) v h = absurd (omega (arith, h))
+
+pub ruleset parts = (count-all_seen, field_found, at-drop, at_one, at_two)

@@ -12,7 +12,7 @@ ghost use Rattle.stub_machine.specs.Sending.{most};
 
 use crate::errors::{MOST, Stopped};
 use crate::parts::{arm_at, part, position};
-use crate::puts::run_chunk;
+use crate::puts::{only_chunk, run_chunk, run_chunks};
 use crate::rows::{run_row_copy, run_row_swap, run_row_wide};
 use crate::single::{run_align, run_ensure, run_ensure_row, run_patch};
 use cast_stub::{Path, SendOp, SendOps, SendSubs};
@@ -189,6 +189,10 @@ fn run_items(
         (state_of buf.old) (state_of buf.new)) }
     ensures long { (result ≡ Err Stopped.Long) → most < length buf.new.done }
 {
+    if let Some((size, puts)) = only_chunk(body) {
+        run_chunks(size, puts, machine.head, values, buf);
+        return Ok(());
+    }
     for value in values.as_slice() {
         run_block(machine, calls, body, value, buf)?;
     }

@@ -11,6 +11,7 @@ use mint::row::Row;
 use mint::value::{Value, Values};
 
 /// The value of a field, where there is a group that has it.
+#[inline(always)]
 fn field_of(value: &Value, n: u32) -> Option<&Value>
     ensures { option_map (λ w. seen w.now) result ≡ in_group n (seen value.now) }
 {
@@ -21,6 +22,7 @@ fn field_of(value: &Value, n: u32) -> Option<&Value>
 }
 
 /// The value at a place.
+#[inline(always)]
 #[tactic(auto, using(crate::proofs::PartLaws::parts))]
 fn nth(values: &Values, n: u32) -> Option<&Value>
     ensures { option_map (λ w. seen w.now) result ≡ field n (all_seen values.now) }
@@ -29,12 +31,38 @@ fn nth(values: &Values, n: u32) -> Option<&Value>
 }
 
 /// The part at a path.
+#[inline(always)]
 #[tactic(auto, using(crate::proofs::PartLaws::parts))]
 pub fn part<'a>(path: &Path, value: &'a Value) -> Option<&'a Value>
     ensures { option_map (λ w. seen w.now) result ≡ at path.now (seen value.now) }
 {
+    let path = path.as_slice();
+    match path.len() {
+        1 => field_of(value, path[0]),
+        2 => field_within(value, path[0], path[1]),
+        _ => part_within(path, value),
+    }
+}
+
+/// The value of a field within the value of a field.
+#[inline(always)]
+fn field_within(value: &Value, outer: u32, inner: u32) -> Option<&Value>
+    ensures { option_map (λ w. seen w.now) result
+        ≡ on_some (in_group outer (seen value.now)) (in_group inner) }
+{
+    match field_of(value, outer) {
+        Some(here) => field_of(here, inner),
+        None => None,
+    }
+}
+
+/// The part at a path of any length.
+#[tactic(auto, using(crate::proofs::PartLaws::parts))]
+fn part_within<'a>(path: &[u32], value: &'a Value) -> Option<&'a Value>
+    ensures { option_map (λ w. seen w.now) result ≡ at path.now (seen value.now) }
+{
     let mut here = value;
-    for n in path.as_slice() {
+    for n in path {
         match field_of(here, *n) {
             Some(next) => here = next,
             None => return None,
@@ -44,11 +72,12 @@ pub fn part<'a>(path: &Path, value: &'a Value) -> Option<&'a Value>
 }
 
 /// The number that a value is.
-pub fn number_of(value: &Value) -> Option<i128>
-    ensures { result ≡ number_in (seen value.now) }
+#[inline(always)]
+pub fn number_of(value: &Value) -> Option<&i128>
+    ensures { option_map (λ n. n.now) result ≡ number_in (seen value.now) }
 {
     match value {
-        Value::Num(n) => Some(*n),
+        Value::Num(n) => Some(n),
         _ => None,
     }
 }

@@ -1,62 +1,69 @@
 //! The puts of a chunk.
 
-ghost use Rattle.std.specs.Prelude.{◌≡◌, ◌≤◌, ◌<◌, ◌+◌, ◌*◌, ◌^◌, pos, length, option_map, replicate, None};
+ghost use Rattle.std.specs.Prelude.{◌≡◌, ◌≤◌, ◌<◌, ◌+◌, ◌*◌, ◌^◌, ◌∷◌, [], pos, length, option_map, replicate, None, Some, IfSome};
 ghost use Rattle.kit_base.specs.Bytes.{le};
-ghost use Rattle.mint.specs.Values.{seen};
+ghost use Rattle.mint.specs.Values.{seen, all_seen};
 ghost use Rattle.cast_stub.specs.Parts.{on_some, at, number_in, tag_in, flag_in, length_in, IsThere};
 ghost use Rattle.cast_stub.specs.Puts.{wrapped, half_of, word, put_octets, offset, put_all};
 ghost use Rattle.wire_def.specs.Descriptors.{descriptor};
-ghost use Rattle.cast_stub.specs.Steps.{chunk_steps};
+ghost use Rattle.cast_stub.specs.Steps.{chunk_steps, over};
+ghost use Rattle.cast_stub.specs.declared.send.SendOp.TheVariants as op;
 ghost use Rattle.stub_machine.specs.Putting.{octets_in, Writes, OverAll};
 ghost use Rattle.stub_machine.specs.Run.{state_of, stored_times, Runs, Ends};
 
 use crate::parts::{flag_of, length_of, number_of, part, scaled, tag_of};
-use cast_stub::{Path, Put, Puts};
-use mint::value::Value;
+use cast_stub::{Path, Put, Puts, SendOp, SendOps};
+use mint::value::{Value, Values};
 use raw_buf::SendBuf;
 use wire_def::{Head, Order};
 
-/// A number modulo twice the half, where it fits.
-fn wrap(half: u64, n: &i128) -> Option<u64>
-    requires { half ≤ 2 ^ 63 }
-    ensures { result ≡ wrapped half n.now }
+/// A number that fits, modulo twice the half.
+#[inline(always)]
+fn wrap(half: u64, n: &i128) -> u64
+    requires half { half ≤ 2 ^ 63 }
+    requires fits { IsThere (wrapped half n.now) }
+    ensures { Some result ≡ wrapped half n.now }
 {
     let h = i128::from(half);
     if *n >= 0 {
-        if *n < h + h { Some(*n as u64) } else { None }
+        if *n < h + h {
+            *n as u64
+        } else {
+            unreachable!()
+        }
     } else if *n >= -h {
-        Some((h + h + *n) as u64)
+        (h + h + *n) as u64
     } else {
-        None
+        unreachable!()
     }
 }
 
-/// Half as many as the numbers of so many octets.
-fn half(width: u32) -> Option<u64>
-    ensures { result ≡ half_of width }
+/// Stores a number of a known width, in two's complement: the half is that of its width.
+#[inline(always)]
+fn put_half(buf: &mut SendBuf, off: usize, width: usize, half: u64, order: Order, n: &i128)
+    requires half { half_of width ≡ Some half }
+    requires there { IsThere (word width order n.now) }
+    requires within { off + octets_in (word width order n.now) ≤ length buf.old.front }
+    ensures { Writes buf.old buf.new off (word width order n.now) }
 {
-    match width {
-        1 => Some(128),
-        2 => Some(32768),
-        4 => Some(2147483648),
-        8 => Some(9223372036854775808),
-        _ => None,
-    }
+    let v = wrap(half, n);
+    buf.put(off, width, order, v);
 }
 
-/// Stores a number, in two's complement.
+/// Stores a number, in two's complement: each arm knows its width, so that it is one store.
+#[inline(always)]
 pub fn put_word(buf: &mut SendBuf, off: usize, width: u32, order: Order, n: &i128)
     requires there { IsThere (word width order n.now) }
     requires within { off + octets_in (word width order n.now) ≤ length buf.old.front }
     ensures { Writes buf.old buf.new off (word width order n.now) }
 {
-    let Some(half) = half(width) else {
-        unreachable!()
-    };
-    let Some(v) = wrap(half, n) else {
-        unreachable!()
-    };
-    buf.put(off, width as usize, order, v);
+    match width {
+        1 => put_half(buf, off, 1, 128, order, n),
+        2 => put_half(buf, off, 2, 32768, order, n),
+        4 => put_half(buf, off, 4, 2147483648, order, n),
+        8 => put_half(buf, off, 8, 9223372036854775808, order, n),
+        _ => unreachable!(),
+    }
 }
 
 /// Stores the number at a path.
@@ -74,7 +81,7 @@ fn put_number(buf: &mut SendBuf, off: u32, path: &Path, width: u32, order: Order
     let Some(n) = number_of(here) else {
         unreachable!()
     };
-    put_word(buf, off as usize, width, order, &n);
+    put_word(buf, off as usize, width, order, n);
 }
 
 /// Stores the tag of the arm at a path.
@@ -235,4 +242,29 @@ pub fn run_chunk(size: u32, puts: &Puts, head: &Head, value: &Value, buf: &mut S
 {
     run_puts(size, puts, head, value, buf);
     buf.advance(size as usize);
+}
+
+/// The size and the puts of a code that is one chunk.
+pub fn only_chunk(code: &SendOps) -> Option<(u32, &Puts)>
+    ensures { IfSome result (λ c. code.now ≡ op.Chunk c.0 c.1.now ∷ []) }
+{
+    let ops = code.as_slice();
+    if ops.len() != 1 {
+        return None;
+    }
+    match &ops[0] {
+        SendOp::Chunk(size, puts) => Some((*size, puts)),
+        _ => None,
+    }
+}
+
+/// Fills a chunk for each value, and appends it. It takes no memory.
+pub fn run_chunks(size: u32, puts: &Puts, head: &Head, values: &Values, buf: &mut SendBuf)
+    requires { Runs (over (chunk_steps size puts.now head.now) (all_seen values.now)) (state_of buf.old) }
+    ensures { Ends (over (chunk_steps size puts.now head.now) (all_seen values.now)) (state_of buf.old)
+        (state_of buf.new) }
+{
+    for value in values.as_slice() {
+        run_chunk(size, puts, head, value, buf);
+    }
 }
