@@ -6,6 +6,7 @@ usage     the page that `flick --help` writes
 session   FOLDER WORDS || WORDS..: of the transcript of a folder of examples/, the commands that have these words, run from the top
 octets    FORMAT/FILE:FROM WHAT || WHAT..: rows of vectors/, by what they are of, with their octets from a place on
 refused   the same, of messages that are refused
+versions  BACK BACK/FILE WHAT: a request of vectors/ over two back ends, of GIOP 1.0 and 1.2, side by side by its parts
 crates    the crates of crates.txt, each with the first sentence of its README
 words     WORD, USUAL TERM: CRATE NAME || ..: our words, each with the first sentence of the doc line or comment of its definition
 grammar   onc, corba or mig: the rules by which tests/model reads files of the language
@@ -23,6 +24,7 @@ stages    BACK FILE OPERATION: the code of a request after each pass, as tests/m
 """
 import functools
 import glob
+import itertools
 import json
 import os
 import re
@@ -70,7 +72,7 @@ def rows_of(arguments):
     """The rows of vectors/ that are named, and where octets begin."""
     where, _, rest = arguments.partition(" ")
     where, _, begin = where.partition(":")
-    rows = [json.loads(line) for line in content(f"vectors/{where}.jsonl").splitlines()]
+    rows = [json.loads(line) for line in content(f"vectors/{where}.jsonl").split("\n") if line]
     for what in rest.split(" || "):
         file, _, what = what.partition(": ") if ": " in what else ("", "", what)
         found = [row for row in rows if row["what"] == what and file in row["in"]]
@@ -92,8 +94,36 @@ def octets(arguments):
 
 def refused(arguments):
     found = [*rows_of(arguments)]
-    lines = [f"| {row['what']} | `{in_words(row['message'][2 * begin:])}` | `{row['refused']}` |" for row, begin in found]
+    lines = [f"| {row['what']} | `{in_words(row['message'][2 * begin:])}` | `{row['refused'].removeprefix('body ')}` |" for row, begin in found]
     return ["| Message | Octets" + (f" from place {found[0][1]} on" if found[0][1] else "") + " | Fault |", "|---|---|---|", *lines]
+
+
+# The parts of a GIOP request behind the header by its minor version, each with its length, or with one that it tells itself.
+PARTS = {0: (("service contexts", 4), ("id", 4), ("reply wanted", 1), ("key", None), ("name", None), ("principal", None)),
+         2: (("id", 4), ("flags, three octets", 4), ("kind of the target", 2), ("key", None), ("name", None), ("service contexts", 4))}
+
+
+def parts_of(message):
+    """The parts of a GIOP request without service contexts, each with what it is; what aligns the next part is the end of each."""
+    octets, ends = bytes.fromhex(message), [("header", 0, 12)]
+    order, minor = ("big", "little")[octets[6]], octets[5]
+    for name, length in PARTS[minor]:
+        at = ends[-1][2]
+        end = at + (4 + int.from_bytes(octets[at:at + 4], order) if length is None else length)
+        ends.append((name, at, end + -end % 4))
+    at = ends[-1][2]
+    if minor == 2 and at % 8 and at < len(octets):
+        ends.append(("padding", at, at + 4))
+    ends.append(("arguments", ends[-1][2], len(octets)))
+    return [f"{name} `{in_words(octets[begin:end].hex())}`" for name, begin, end in ends]
+
+
+def versions(arguments):
+    where, _, what = arguments.partition("/")
+    file, _, what = what.partition(" ")
+    found = [next(rows_of(f"{back}/{file} {what}"))[0] for back in where.split()]
+    lines = itertools.zip_longest(*(parts_of(row["message"]) for row in found), fillvalue="")
+    return [f"`{json.dumps(found[0]['record'], separators=(',', ':'))}` in both:", "", "| Version 1.0 | Version 1.2 |", "|---|---|", *(f"| {' | '.join(cells)} |" for cells in lines)]
 
 
 def crates(_):
@@ -197,7 +227,7 @@ def counts(_):
 def limits(_):
     text = content("crates/kit_base/src/limits.rt")
     found = re.findall(r"((?:^/// .*\n)+)pub const \w+: \w+ = ([\d_]+);", text, re.M)
-    return ["| | |", "|---|---|", *(f"| {' '.join(re.findall('/// (.*)', said)).rstrip('.')} | {int(n.replace('_', '')):,} |" for said, n in found)]
+    return [f"- {' '.join(re.findall('/// (.*)', said)).rstrip('.')}: {int(n.replace('_', '')):,}" for said, n in found]
 
 
 def of_model(code):
@@ -254,7 +284,7 @@ def stages(arguments):
     return ["| After | Code |", "|---|---|", *(f"| `{what}` | `{in_line(text)}` |" for what, text in rows)]
 
 
-KINDS = {"head": head, "counts": counts, "limits": limits, "lowered": lowered, "tools": tools, "vectors": vectors, "items": items, "variants": variants, "worked": worked, "stages": stages, "words": words, "grammar": grammar, "touched": touched, "usage": usage, "session": session, "octets": octets, "refused": refused, "crates": crates}
+KINDS = {"head": head, "counts": counts, "limits": limits, "lowered": lowered, "tools": tools, "vectors": vectors, "items": items, "variants": variants, "worked": worked, "stages": stages, "words": words, "grammar": grammar, "touched": touched, "usage": usage, "session": session, "octets": octets, "refused": refused, "versions": versions, "crates": crates}
 
 
 def page(written):
