@@ -16,6 +16,8 @@ items     CRATE NAME NAME..: what a crate gives to others, each with the first s
 head      PATH: what a program of the repository writes of itself
 counts    the counts of bench/run, each with its first line
 limits    the limits that several crates keep
+dearest   the dearest lines in memory and in time, by bench/figures.json
+tried     the runs that fail on purpose, by tests/lines and bench/figures.json
 tools     PATH PATH..: programs of the repository, each with its words and what it does, by the first lines of its own text
 worked    the codes that tests/model runs, with what they send and cost
 vectors   how many vectors there are, by category and back end, and what they ask
@@ -230,6 +232,32 @@ def limits(_):
     return [f"- {' '.join(re.findall('/// (.*)', said)).rstrip('.')}: {int(n.replace('_', '')):,}" for said, n in found]
 
 
+def measured(section):
+    """The rows of a section of bench/figures.json."""
+    return json.loads(content("bench/figures.json"))[section]["cells"]
+
+
+def first_number(cell):
+    """The first number of a cell."""
+    return int(re.match(r"[\d,]+", str(cell[0] if isinstance(cell, list) else cell))[0].replace(",", ""))
+
+
+def dearest(_):
+    memory = [(first_number(cell), column, row) for row, cells in measured("costs").items() for column, cell in cells.items()]
+    time = max((first_number(cell), row) for row, cells in measured("tables").items() for cell in cells.values())
+    usual, most = max(each for each in memory if each[1] != "unreply"), max(memory)
+    return [f"- **Memory**: a line takes at most {usual[0]} octets for each of its own, under `{most[1]}` over {'CDR' if 'cdr' in most[2] else most[2].split()[-1]} {most[0]}; then status 7.",
+            f"- **Time**: about 1,500 instructions for an octet of a line; more for lines of few octets, long answers, and {time[1].split(', ')[0]} ({time[0]:,})."]
+
+
+def tried(_):
+    rows = [row for path in sorted(glob.glob(f"{TOP}/tests/lines/*.json")) for row in json.loads(content(os.path.relpath(path, TOP)))["rows"] if "cuts" in row]
+    cuts = sum(times for row in rows for _, times in row["answers"])
+    runs = [(name, cells) for name, cells in measured("runs").items() if name.startswith("tests/fail_")]
+    lines = [f"- {name}: {cells['Compared']:,}, {cells['Differences'] or 'none'} otherwise" for name, cells in runs]
+    return [f"- tests/run: {len(rows)} messages, cut at each octet: {cuts:,} answers", *lines]
+
+
 def of_model(code):
     """What a program over tests/model writes, which is JSON."""
     run = subprocess.run([sys.executable, "-B", "-c", f"import json, sys; sys.path.insert(0, {TOP + '/tests/model'!r}); {code}"], check=True, capture_output=True, text=True)
@@ -284,7 +312,7 @@ def stages(arguments):
     return ["| After | Code |", "|---|---|", *(f"| `{what}` | `{in_line(text)}` |" for what, text in rows)]
 
 
-KINDS = {"head": head, "counts": counts, "limits": limits, "lowered": lowered, "tools": tools, "vectors": vectors, "items": items, "variants": variants, "worked": worked, "stages": stages, "words": words, "grammar": grammar, "touched": touched, "usage": usage, "session": session, "octets": octets, "refused": refused, "versions": versions, "crates": crates}
+KINDS = {"dearest": dearest, "tried": tried, "head": head, "counts": counts, "limits": limits, "lowered": lowered, "tools": tools, "vectors": vectors, "items": items, "variants": variants, "worked": worked, "stages": stages, "words": words, "grammar": grammar, "touched": touched, "usage": usage, "session": session, "octets": octets, "refused": refused, "versions": versions, "crates": crates}
 
 
 def page(written):
