@@ -28,7 +28,7 @@ BESIDES = {
     "? name Twice": "An attribute `x` has the names `_get_x` and `_set_x` too.",
     "? syntax": "`docs/GRAMMAR.md` has the grammar; a word that it quotes is not a name.",
     "? name Range": "A length is at least 1, a bound 0, in a CORBA or MIG file 1; both are at most 2^32 - 1. A shift is by 0 to 63, an item has 32 signed bits. The base, the ids and 100 of a subsystem are at most 2^31 - 1 together. Any other number fits its type.",
-    "? name OutOfScope": "So it is with floating-point numbers, object references, values of any type, and ports within messages.",
+    "? name OutOfScope": "So it is with floating-point numbers, `any`, `Object`, and ports within messages.",
     "? bind Wide": "README has the limits.",
     "? bind Deep": "A request adds a level around parameters; an answer and a reply add theirs around a result.",
     "! long": "Under `unreply` the operation's name and the space count.",
