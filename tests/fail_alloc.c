@@ -6,8 +6,9 @@
    in a process of its own, with that allocation failing and with the file FAIL_ALLOC_INPUT as its
    input. A line for each is written to standard output: the number; the status, or the negative
    signal that ended it, that of an alarm after FAIL_ALLOC_SECONDS; the length of its output; 1 where
-   that is a prefix of the file FAIL_ALLOC_OUTPUT in whole lines, else 0; the length of what it wrote
-   on standard error. */
+   that is a prefix of the file FAIL_ALLOC_OUTPUT in whole answers, else 0; the length of what it wrote
+   on standard error. An answer ends with its line, or where FAIL_ALLOC_ENDS names a file of numbers,
+   one a line, at each of these lengths of the output. */
 #define _GNU_SOURCE
 #include <fcntl.h>
 #include <stdio.h>
@@ -48,11 +49,31 @@ static struct octets octets_of(int file, const char *what)
     return all;
 }
 
-/* Whether octets are a prefix of others, and end where a line ends. */
+/* Whether a number is one of a file of numbers, one a line. */
+static int is_there(size_t number, struct octets numbers)
+{
+    size_t each = 0;
+    for (size_t k = 0; k < numbers.length; k++) {
+        if (numbers.at[k] != '\n') {
+            each = 10 * each + (size_t)(numbers.at[k] - '0');
+            continue;
+        }
+        if (each == number)
+            return 1;
+        each = 0;
+    }
+    return 0;
+}
+
+/* Whether octets are a prefix of others, and end where an answer ends. */
 static int is_prefix(struct octets some, struct octets all)
 {
+    static struct octets ends;
+    const char *path = getenv("FAIL_ALLOC_ENDS");
+    if (path && ends.length == 0)
+        ends = octets_of(open(path, O_RDONLY), path);
     return some.length <= all.length && memcmp(some.at, all.at, some.length) == 0 &&
-           (some.length == 0 || some.at[some.length - 1] == '\n');
+           (some.length == 0 || (path ? is_there(some.length, ends) : some.at[some.length - 1] == '\n'));
 }
 
 /* A file for what a process writes, which no other has. */

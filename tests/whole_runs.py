@@ -1,5 +1,7 @@
 """Short whole runs of the program, for tests/fail_alloc.
 
+`worked_runs` are rows of tests/lines that were worked out by hand: a call of each front end, and calls to a server.
+
 `every_run` has each command over each pair of a front and a back end. Its interface files are short and have every form of a
 type, over CDR with exceptions. Its lines are those of the model's generators by one seed, right and wrong ones, with two long
 ones before them.
@@ -20,13 +22,14 @@ replay = module_from_spec(spec_from_loader("replay", loader))
 loader.exec_module(replay)
 import text_rows  # noqa: E402
 from calls import BACKS, marshal  # noqa: E402
+from framing import framed  # noqa: E402
 from replies import BACKS as REPLIES  # noqa: E402
 from replies import reply  # noqa: E402
 from samples import call_lines, request_lines  # noqa: E402
 from serving_samples import given_lines, refused_lines, replied_lines, reply_lines, served_lines  # noqa: E402
 
 FRONTS = ("onc", "corba", "mig")
-COMMANDS = ("marshal", "unmarshal", "reply", "unreply", "serve", "show", "stubs", "count", "make")
+COMMANDS = ("marshal", "unmarshal", "reply", "unreply", "pipe", "unpipe", "serve", "show", "stubs", "count", "make")
 SEED = 1
 LINES = 24
 MESSAGES = 12
@@ -34,6 +37,9 @@ LONG = 400  # numbers of a long line
 BLANKS = 70_000  # around a record in the longest line
 LONGEST = 2_000  # of the files and lines of other tables
 LONGEST_CASE = 20_000
+# The rows that are runs of their own, by table: of one its record and its message, of the other all in one run.
+WORKED = {"calc": "a call of two numbers", "corba": "two numbers, big", "mig": "a request over Mach"}
+WORKED_SERVING = "serve_worked_onc"
 
 # An interface of each language with every form of a type, and what is raised over CDR.
 TEXTS = {
@@ -126,8 +132,12 @@ def pair_runs(room, front, back):
     served = [*calls[:2], *served_lines(rng, back, interfaces, requests[2:]), b"0", b"zz"]
     given, refused = given_lines(rng, replies, interfaces), refused_lines(rng, replies, interfaces)
     file = room.lay(text.encode())
-    for command, lines in (("marshal", requests), ("unmarshal", calls), ("reply", records), ("unreply", replied), ("count", requests)):
+    for command, lines in (("marshal", requests), ("unmarshal", calls), ("reply", records), ("unreply", replied), ("count", requests), ("pipe", requests)):
         yield run_of(f"{command} {front} {back}", room.path, [command, front, back, file], joined(lines))
+    messages = [bytes.fromhex(answer) for line in requests if not (answer := marshal(BACKS[back], interfaces, line)).startswith("!")]
+    stream = b"".join(framed(back, message) for message in messages)
+    for name, octets in (("", stream), (" to a cut", stream[:-1])):
+        yield run_of(f"unpipe {front} {back}{name}", room.path, ["unpipe", front, back, file], octets)
     for name, answers in (("replies", given), ("no replies", b""), ("a long reply", long), ("wrong replies", refused)):
         yield run_of(f"serve {front} {back} with {name}", room.path, ["serve", front, back, file, room.lay(answers)], joined(served))
     yield run_of(f"stubs {front} {back}", room.path, ["stubs", front, back, file])
@@ -143,6 +153,20 @@ def every_run(folder):
         yield run_of(f"show {front}", folder, ["show", front, room.lay(text_of(front, "cdr-be").encode())])
     for words in (["--help"], ["--version"], [], ["marshal", "onc"]):
         yield run_of(" ".join(words) or "no words", folder, words)
+
+
+# ---- worked rows
+
+def worked_runs(folder):
+    """Worked rows: a record by each command that takes it, its message, and all lines of a server."""
+    room = Room(folder)
+    for table, name in WORKED.items():
+        content = json.loads(replay.content(f"{TOP}/tests/lines/{table}.json"))
+        row = next(row for row in content["rows"] if row["name"] == name)
+        file, front, back = room.lay(replay.spelled(content["file"]).encode()), content.get("front", "onc"), row.get("over", "xdr")
+        for command, line in (("marshal", row["line"]), ("count", row["line"]), ("unmarshal", row["answer"])):
+            yield run_of(f"{name}, by {command}", room.path, [command, front, back, file], joined([line.encode()]))
+    yield from table_runs(room, [WORKED_SERVING])
 
 
 # ---- the runs that stand in tests/

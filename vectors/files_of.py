@@ -8,7 +8,7 @@ from corba_nodes import told_of_names
 from files import interfaces_of
 
 FRONTS = {".x": "onc", ".idl": "corba", ".defs": "mig"}
-BACKS = ("xdr", "cdr-be", "cdr-le", "mach")  # the back ends of which there are vectors
+BACKS = ("xdr", "cdr-be", "cdr-le", "cdr12-be", "cdr12-le", "mach")  # the back ends of which there are vectors
 CATEGORIES = ("values", "limits", "heads", "bodies", "trailing", "replies", "choices", "open")
 
 

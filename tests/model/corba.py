@@ -476,7 +476,7 @@ ASKED = {"expression": ("expression", shown), "type": ("type", shown), "declarat
 
 
 def told(case, text):
-    """The answer to a row of tests/layers/syntax (crates/check_syntax/README.md)."""
+    """The answer to a row of tests/layers/syntax (tests/layers/README.md)."""
     if case["ask"] == "file":
         return told_of_file(text)
     try:

@@ -79,6 +79,14 @@ def cut(back, stream):
     return messages, None
 
 
+def message_ends(back, stream):
+    """The places of a stream at which a message ends, up to where there is none."""
+    at, read = 0, READERS.get(back, giop)
+    while at < len(stream) and (found := read(stream, at)) != WAITS:
+        at = found[1]
+        yield at
+
+
 def framed(back, message):
     """A message as it is sent: over XDR a record of one fragment."""
     return (0x80000000 | len(message)).to_bytes(4, "big") + message if back == "xdr" else message

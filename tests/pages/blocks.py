@@ -6,6 +6,7 @@ usage     the page that `flick --help` writes
 session   FOLDER WORDS || WORDS..: of the transcript of a folder of examples/, the commands that have these words, run from the top
 octets    FORMAT/FILE:FROM WHAT || WHAT..: rows of vectors/, by what they are of, with their octets from a place on
 refused   the same, of messages that are refused
+versions  BACK BACK/FILE WHAT: a request of vectors/ over two back ends, of GIOP 1.0 and 1.2, side by side by its parts
 crates    the crates of crates.txt, each with the first sentence of its README
 words     WORD, USUAL TERM: CRATE NAME || ..: our words, each with the first sentence of the doc line or comment of its definition
 grammar   onc, corba or mig: the rules by which tests/model reads files of the language
@@ -15,6 +16,8 @@ items     CRATE NAME NAME..: what a crate gives to others, each with the first s
 head      PATH: what a program of the repository writes of itself
 counts    the counts of bench/run, each with its first line
 limits    the limits that several crates keep
+dearest   the dearest lines in memory and in time, by bench/figures.json
+tried     the runs that fail on purpose, by tests/lines and bench/figures.json
 tools     PATH PATH..: programs of the repository, each with its words and what it does, by the first lines of its own text
 worked    the codes that tests/model runs, with what they send and cost
 vectors   how many vectors there are, by category and back end, and what they ask
@@ -23,6 +26,7 @@ stages    BACK FILE OPERATION: the code of a request after each pass, as tests/m
 """
 import functools
 import glob
+import itertools
 import json
 import os
 import re
@@ -70,7 +74,7 @@ def rows_of(arguments):
     """The rows of vectors/ that are named, and where octets begin."""
     where, _, rest = arguments.partition(" ")
     where, _, begin = where.partition(":")
-    rows = [json.loads(line) for line in content(f"vectors/{where}.jsonl").splitlines()]
+    rows = [json.loads(line) for line in content(f"vectors/{where}.jsonl").split("\n") if line]
     for what in rest.split(" || "):
         file, _, what = what.partition(": ") if ": " in what else ("", "", what)
         found = [row for row in rows if row["what"] == what and file in row["in"]]
@@ -92,8 +96,36 @@ def octets(arguments):
 
 def refused(arguments):
     found = [*rows_of(arguments)]
-    lines = [f"| {row['what']} | `{in_words(row['message'][2 * begin:])}` | `{row['refused']}` |" for row, begin in found]
+    lines = [f"| {row['what']} | `{in_words(row['message'][2 * begin:])}` | `{row['refused'].removeprefix('body ')}` |" for row, begin in found]
     return ["| Message | Octets" + (f" from place {found[0][1]} on" if found[0][1] else "") + " | Fault |", "|---|---|---|", *lines]
+
+
+# The parts of a GIOP request behind the header by its minor version, each with its length, or with one that it tells itself.
+PARTS = {0: (("service contexts", 4), ("id", 4), ("reply wanted", 1), ("key", None), ("name", None), ("principal", None)),
+         2: (("id", 4), ("flags, three octets", 4), ("kind of the target", 2), ("key", None), ("name", None), ("service contexts", 4))}
+
+
+def parts_of(message):
+    """The parts of a GIOP request without service contexts, each with what it is; what aligns the next part is the end of each."""
+    octets, ends = bytes.fromhex(message), [("header", 0, 12)]
+    order, minor = ("big", "little")[octets[6]], octets[5]
+    for name, length in PARTS[minor]:
+        at = ends[-1][2]
+        end = at + (4 + int.from_bytes(octets[at:at + 4], order) if length is None else length)
+        ends.append((name, at, end + -end % 4))
+    at = ends[-1][2]
+    if minor == 2 and at % 8 and at < len(octets):
+        ends.append(("padding", at, at + 4))
+    ends.append(("arguments", ends[-1][2], len(octets)))
+    return [f"{name} `{in_words(octets[begin:end].hex())}`" for name, begin, end in ends]
+
+
+def versions(arguments):
+    where, _, what = arguments.partition("/")
+    file, _, what = what.partition(" ")
+    found = [next(rows_of(f"{back}/{file} {what}"))[0] for back in where.split()]
+    lines = itertools.zip_longest(*(parts_of(row["message"]) for row in found), fillvalue="")
+    return [f"`{json.dumps(found[0]['record'], separators=(',', ':'))}` in both:", "", "| Version 1.0 | Version 1.2 |", "|---|---|", *(f"| {' | '.join(cells)} |" for cells in lines)]
 
 
 def crates(_):
@@ -197,7 +229,33 @@ def counts(_):
 def limits(_):
     text = content("crates/kit_base/src/limits.rt")
     found = re.findall(r"((?:^/// .*\n)+)pub const \w+: \w+ = ([\d_]+);", text, re.M)
-    return ["| | |", "|---|---|", *(f"| {' '.join(re.findall('/// (.*)', said)).rstrip('.')} | {int(n.replace('_', '')):,} |" for said, n in found)]
+    return [f"- {' '.join(re.findall('/// (.*)', said)).rstrip('.')}: {int(n.replace('_', '')):,}" for said, n in found]
+
+
+def measured(section):
+    """The rows of a section of bench/figures.json."""
+    return json.loads(content("bench/figures.json"))[section]["cells"]
+
+
+def first_number(cell):
+    """The first number of a cell."""
+    return int(re.match(r"[\d,]+", str(cell[0] if isinstance(cell, list) else cell))[0].replace(",", ""))
+
+
+def dearest(_):
+    memory = [(first_number(cell), column, row) for row, cells in measured("costs").items() for column, cell in cells.items()]
+    time = max((first_number(cell), row) for row, cells in measured("tables").items() for cell in cells.values())
+    usual, most = max(each for each in memory if each[1] != "unreply"), max(memory)
+    return [f"- **Memory**: a line takes at most {usual[0]} octets for each of its own, under `{most[1]}` over {'CDR' if 'cdr' in most[2] else most[2].split()[-1]} {most[0]}; then status 7.",
+            f"- **Time**: about 1,500 instructions for an octet of a line; more for lines of few octets, long answers, and {time[1].split(', ')[0]} ({time[0]:,})."]
+
+
+def tried(_):
+    rows = [row for path in sorted(glob.glob(f"{TOP}/tests/lines/*.json")) for row in json.loads(content(os.path.relpath(path, TOP)))["rows"] if "cuts" in row]
+    cuts = sum(times for row in rows for _, times in row["answers"])
+    runs = [(name, cells) for name, cells in measured("runs").items() if name.startswith("tests/fail_")]
+    lines = [f"- {name}: {cells['Compared']:,}, {cells['Differences'] or 'none'} otherwise" for name, cells in runs]
+    return [f"- tests/run: {len(rows)} messages, cut at each octet: {cuts:,} answers", *lines]
 
 
 def of_model(code):
@@ -254,7 +312,7 @@ def stages(arguments):
     return ["| After | Code |", "|---|---|", *(f"| `{what}` | `{in_line(text)}` |" for what, text in rows)]
 
 
-KINDS = {"head": head, "counts": counts, "limits": limits, "lowered": lowered, "tools": tools, "vectors": vectors, "items": items, "variants": variants, "worked": worked, "stages": stages, "words": words, "grammar": grammar, "touched": touched, "usage": usage, "session": session, "octets": octets, "refused": refused, "crates": crates}
+KINDS = {"dearest": dearest, "tried": tried, "head": head, "counts": counts, "limits": limits, "lowered": lowered, "tools": tools, "vectors": vectors, "items": items, "variants": variants, "worked": worked, "stages": stages, "words": words, "grammar": grammar, "touched": touched, "usage": usage, "session": session, "octets": octets, "refused": refused, "versions": versions, "crates": crates}
 
 
 def page(written):

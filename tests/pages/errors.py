@@ -8,33 +8,34 @@ import sources
 from sources import TOP
 
 LANGUAGES = {"onc": "ONC", "corba": "CORBA", "mig": "MIG"}
-MOST, FEW = 2, 1  # rows of files, of one language or of each; explained lines
-ALL = ("cdr-be", "cdr-le", "mach", "xdr")
-SHORT = 7  # words of a doc line that says too little alone
-LONGEST = 64  # characters of a text that is shown
+LEAST, LONGEST, LONGEST_LINE = 8, 64, 100  # the characters of a file that is shown, and of a line
+# The lines of which the cause in flick_explain says more than the doc line.
+WITH_CAUSE = ("? name Unknown", "? bind Many", "! json", "! request", "! op", "! hex", "! head Type")
 HEAD = """# What the program says when it refuses
 
-A file is refused with one line that begins with `?`, its first fault, and status 3. A line of the input is refused with one line that begins with `!`; those after it are still answered, and the status at the end is 1. AT is the place of an octet, from 0; LINE is a line and DECL a declaration of FILE, from 1 (`docs/COMMANDS.md`, "FRONT"). `./explain` shows the place, the name, the path or the octets (`docs/COMMANDS.md`).
+A file is refused by one line that begins with `?`, its first fault, and status 3; a line of the input by one that begins with `!`: the others are still answered, and the status is 1. AT is the place of an octet, from 0; LINE is a line and DECL a declaration of FILE, from 1 (`docs/GRAMMAR.md`). `./explain` shows the place.
 
-`tests/print_docs --write` prints this page. An entry begins with the doc line of the variant in the code; its examples are rows of `tests/explain`, `tests/files` and `tests/lines`, which have more of them.
+An entry has the meaning, an example, and what may help. `tests/print_docs` prints it from the code and rows of tests.
 """
 # Sentences of what no variant stands for; and what is worth knowing besides.
 SAID = {"! long": "The line is above its limit and was not read, or its message would be above the limit.", "! json": "The line is not JSON.", "! hex": "",
-        "? syntax": "The definition that begins on line LINE has no tree.", "? replies": "Line LINE of the file, counted from 1 over all lines, gives no reply.",
+        "? syntax": "The definition that begins on line LINE has no tree.",
+        "? replies": "Line LINE, from 1 over all, is no reply record with a message, or its operation has one already. A head number and `refused` are not taken.",
         "! frame Cut": "The stream ends within a message."}
 BESIDES = {
-    "? lex Directive": "`./bring-in` runs `cpp` over the file, and lists each step (`docs/FILES.md`).",
-    "? name Unknown": "`./bring-in` declares names of C headers, and moves declarations up (`docs/FILES.md`). In a CORBA file a name of another module wants its scope, as in `M::name`.",
+    "? lex Directive": "`./bring-in` runs `cpp` over the file.",
+    "? name Unknown": "In a CORBA file a name of another module wants its scope, as in `M::name`. `./bring-in` mends much of this.",
     "? name Twice": "An attribute `x` has the names `_get_x` and `_set_x` too.",
     "? syntax": "`docs/GRAMMAR.md` has the grammar; a word that it quotes is not a name.",
-    "? name Range": "A bound is at least 0, in a CORBA or MIG file 1; lengths and bounds are at most 2^32 - 1. A shift is by 0 to 63, and an item has 32 signed bits. The base, the ids and 100 of a subsystem are at most 2^31 - 1 together.",
+    "? name Range": "A length is at least 1, a bound 0, in a CORBA or MIG file 1; both are at most 2^32 - 1. A shift is by 0 to 63, an item has 32 signed bits. The base, the ids and 100 of a subsystem are at most 2^31 - 1 together. Any other number fits its type.",
+    "? name OutOfScope": "So it is with floating-point numbers, `any`, `Object`, and ports within messages.",
+    "? bind Wide": "README has the limits.",
     "? bind Deep": "A request adds a level around parameters; an answer and a reply add theirs around a result.",
-    "? replies": "`flick reply` over the same line says which of these it is. A refusal (`refused`) is not taken.",
-    "! long": "Under `unreply` the line includes the operation's name and the space, so the longest messages that `reply` writes are above it.",
-    "! op": "An attribute `x` of a CORBA file is `_get_x` and `_set_x`.",
+    "! long": "Under `unreply` the operation's name and the space count.",
+    "! op": "Under `reply` and `unreply` it needs a reply.",
+    "! request": "A line of `unreply` has a space.",
+    "! head Type": "Under `unreply`: no reply to this operation.",
     "! head Item": "So a GIOP reply of status 3, LOCATION_FORWARD, is refused.",
-    "! hex": "`serve` refuses a line only so, or as `! long`: every message has an answer.",
-    "! interface": "Over CDR an interface is named by the object's key, over Mach by the id.",
 }
 FILE = (("? file", "saying", "NoFile", ""), ("? size", "saying", "TooLarge", ""))
 REPLIES = (("? replies file", "saying", "NoReplies", ""), ("? replies size", "saying", "LargeReplies", ""), ("? replies", "saying", "WrongReply", "LINE"))
@@ -43,6 +44,9 @@ RECORDS = (("! long", "", "", ""), ("! json", "", "", ""), ("! request", "record
 # The enums of the program, each by its crate and a variant that it has.
 ENUMS = {"lex": ("idl_lex", "OpenComment"), "name": ("aoi", "CaseClash"), "bind": ("pres", "Heavy"), "head": ("wire_def", "Magic"), "body": ("wire_def", "OverBound"),
          "saying": ("flick_top", "WrongReply"), "record": ("json_shape", "Op"), "message": ("flick_engine", "NoInterface"), "frame": ("wire_frames", "TooLong")}
+
+
+WITH_TEXT = ("? replies", "! json", "! request", "! value")  # the lines of which an example has what ./explain says of it
 
 
 def variants(enum):
@@ -67,7 +71,7 @@ def variants(enum):
 def causes():
     """The causes of flick_explain by their file and constant."""
     found = {}
-    for path in ("causes", "refusals", "given_causes"):
+    for path in ("causes", "refusals"):
         text = sources.text_of(f"crates/flick_explain/src/{path}.rt")
         for name, body in re.findall(r"const (\w+): Cause = Cause \{(.*?)\n\};", text, re.S):
             found[path, name] = dict(re.findall(r'(what|why|repair): "(.*?)",\n', body))
@@ -90,7 +94,7 @@ def whole(text):
     text = text.strip()
     word = text.split(" ")[0]
     text = f"`{word}`{text[len(word):]}" if word in ("op", "unmarshal") else text if word.startswith("docs/") else text[:1].upper() + text[1:]
-    return text + ("" if text.endswith((".", "!")) else ".")
+    return re.sub(r"\bdocs/\w+\.md", r"`\g<0>`", text) + ("" if text.endswith((".", "!")) else ".")
 
 
 # ---- examples
@@ -106,110 +110,77 @@ def rows(pattern):
             yield os.path.basename(path).removesuffix(".json"), json.load(file)
 
 
-def short(text):
+def short(text, longest=LONGEST):
     """A text on one line in backquotes, where it is short enough."""
     if not isinstance(text, str) or not text.strip() or "`" in text or not text.isprintable() and "\n" not in text:
         return ""
     if "#" in text and "\n" in text.strip():
         return ""
     line = " ".join(text.split())
-    return f"`{line}`" if len(line) <= LONGEST else ""
+    return f"`{line}`" if len(line) <= longest else ""
 
 
 def explained():
-    """What is said of refused lines and replies, by answer: the line, the first line of what is said, the back end and the command."""
+    """The first line of each answer that ./explain has a row of, with what is said of it, the back end and the command."""
     found = {}
     for table in ("lines", "commands"):
         for _, listed in rows(f"explain/{table}.json"):
             for row in listed:
                 text = re.sub(r"^(FILE|LINES|REPLIES)(:\d+)*: ", "", row["said"][0]).rstrip(":")
-                given = row.get("replies") if row["answer"].startswith("? replies") else row.get("line")
-                if shown := short(given):
-                    found.setdefault(answer_words(row["answer"]), []).append((shown, text, row.get("over", ""), row.get("command", "")))
+                if shown := short(row.get("replies") if row["answer"].startswith("? replies") else row.get("line"), LONGEST_LINE):
+                    found.setdefault(answer_words(row["answer"]), (shown, text, row.get("over", ""), row.get("command", "")))
     return found
 
 
 def told_files():
-    """The files that are refused: those of tests/explain first, by answer and language, with a name and the text."""
+    """A file of each language that is refused, by answer: its text where that is short, else its name; those of tests/explain first."""
     found = {}
     for folder in ("explain", "files"):
         for language in LANGUAGES:
             for _, listed in rows(f"{folder}/{language}.json"):
                 for row in listed:
                     if row["answer"] and not re.search(r"\b(before|hides|faults?|answer)\b", row["name"]):
-                        name, text = row["name"], short(row["file"])
-                        pairs = found.setdefault(answer_words(row["answer"]), {}).setdefault(language, [])
-                        if all(name != other and (not text or text != shown) for other, shown in pairs):
-                            pairs.append((name, text))
+                        answer = answer_words(row["answer"])
+                        languages = found.setdefault(answer, {})
+                        is_plain = len(str(row["file"])) >= LEAST and ("/*" not in str(row["file"]) or answer == "? lex OpenComment")
+                        text = short(row["file"]) if is_plain else ""
+                        if language not in languages or text and not languages[language].startswith("`"):
+                            languages[language] = text or row["name"]
     return found
-
-
-def line_examples():
-    """The lines that are refused, by answer and command: what the rows are called; and by answer the back ends."""
-    found, backs = {}, refused_over()
-    for _, table in rows("lines/*.json"):
-        for row in table["rows"]:
-            answer = row.get("answer")
-            if isinstance(answer, str) and answer.startswith(("! ", "? replies")):
-                backs.setdefault(answer_words(answer), set()).add(row.get("over", "xdr"))
-                name = re.split(r", (?:big|little)\b", row["name"])[0]
-                names = found.setdefault(answer_words(answer), {}).setdefault(row["command"], [])
-                if name not in names and not re.search(r"\bbefore\b", name):
-                    names.append(name)
-    return found, backs
-
-
-def refused_over():
-    """The words of the head and body faults of vectors/, with the back ends whose vectors have them."""
-    backs = {}
-    for path in sorted(glob.glob(f"{TOP}/vectors/*/*.jsonl")):
-        with open(path, encoding="utf-8") as file:
-            for line in file:
-                if found := re.search(r'"refused": ?"((?:head|body) \w+)', line):
-                    backs.setdefault(f"! {found[1]}", set()).add(os.path.basename(os.path.dirname(path)))
-    return backs
-
-
-def chosen(pairs, few):
-    """A few rows, of those with a short text the first."""
-    pairs = sorted(pairs, key=lambda pair: not pair[1])[:few]
-    return ", ".join(f"{text} ({name})" if text else name for name, text in pairs)
 
 
 class Page:
     def __init__(self):
-        self.causes, self.arms = causes(), arms()
+        self.causes, self.arms, self.repair = causes(), arms(), ""
         self.files, self.said = told_files(), explained()
-        self.lines, self.backs = line_examples()
 
     def of_word(self, function, word):
         return self.arms[function].get(word, [])[:1]
 
     def entry(self, answer, place, doc, names):
-        """An entry: what is there, why, examples, and what may help."""
+        """An entry: what is there, why, an example, and what may help."""
         found = [self.causes[name] for name in names]
         told = dict.fromkeys([whole(doc)] if doc else [])
-        if len(doc.split()) < SHORT or len(found) > 1:
-            told.update(dict.fromkeys(whole(each["why"]) for each in found))
+        if answer in WITH_CAUSE:
+            told.update(dict.fromkeys(whole(each["why"]) for each in found[:1]))
         told.update(dict.fromkeys([BESIDES[answer]] if answer in BESIDES else []))
-        if answer.startswith(("! head ", "! body ")) and len(self.backs.get(answer, ALL)) < len(ALL):
-            told[f"It comes over {', '.join(f'`{back}`' for back in sorted(self.backs[answer]))} alone."] = None
-        yield from ("", f"### `{f'{answer} {place}'.strip()}`", "", " ".join(told))
-        listed = [*self.examples(answer)]
-        helps = "; ".join(dict.fromkeys(each["repair"].rstrip(".") for each in found))
-        yield from ["", *listed, *([f"- What may help: {helps}."] if helps else [])] if listed or helps else []
+        yield from ("", f"**`{f'{answer} {place}'.strip()}`** {' '.join(told)}")
+        if example := self.example(answer):
+            yield example
+        if found and "docs/ERRORS.md" not in found[0]["repair"]:
+            yield "*As above.*" if found[0]["repair"] == self.repair else f"*{whole(found[0]['repair'])}*"
+            self.repair = found[0]["repair"]
 
-    def examples(self, answer):
-        languages = self.files.get(answer, {})
-        for language, pairs in languages.items():
-            yield f"- {LANGUAGES[language]}: {chosen(pairs, max(1, MOST // len(languages)))}."
-        said = self.said.get(answer, [])[:FEW]
-        for shown, text, over, command in said:
+    def example(self, answer):
+        """The text of a file that is refused so, where there is a short one; or a line, and of a record what is said of it."""
+        if languages := self.files.get(answer) if answer.startswith("? ") else None:
+            texts = [text for text in languages.values() if text.startswith("`")]
+            return f"{texts[0]}." if texts else ""
+        if answer in self.said:
+            shown, text, over, command = self.said[answer]
             where = "".join(part for part in (f" under `{command}`" if command else "", f" over `{over}`" if over else "") if part)
-            yield f"- {shown}{where}: {text}."
-        names = [f"{names[0]} (`{command}`)" for command, names in self.lines.get(answer, {}).items() if names]
-        if names and not said:
-            yield f"- Rows: {'; '.join(names[:MOST])}."
+            return f"{shown}{where}: {text}." if answer in WITH_TEXT else f"{shown}{where}."
+        return ""
 
 
 def group(out, page, heading, entries, first=()):
@@ -218,10 +189,9 @@ def group(out, page, heading, entries, first=()):
         out += page.entry(answer, place, doc, names)
 
 
-GIVEN = [("given_causes", name) for name in ("NO_JSON", "NO_RECORD", "HEAD_NUMBER", "NO_OPERATION", "AGAIN", "LONG")]
-OF_RECORDS = {"! long": ["LONG"], "! json": ["JSON"], "! request": ["REQUEST", "REPLY_RECORD", "NO_SPACE"], "! op": ["OP", "NOT_REPLIED"],
+OF_RECORDS = {"! long": ["LONG"], "! json": ["JSON"], "! request": ["REQUEST"], "! op": ["OP"],
               "! head": ["NO_REPLY"], "! value": ["VALUE"]}
-HEADS = {"Short": ["HEAD_SHORT"], "Type_": ["HEAD_TYPE", "NOT_A_REPLY"]}
+HEADS = {"Short": ["HEAD_SHORT"], "Type_": ["HEAD_TYPE"]}
 
 
 def refusals(*names):
@@ -238,7 +208,7 @@ def page():
     entries += [(f"? bind {word}", "", doc, page.of_word("bind_cause", word)) for word, doc in variants("bind").items()]
     group(out, page, "FILE is refused", entries)
     group(out, page, "REPLIES is refused (`serve`)", [
-        (answer, place, SAID.get(answer) or saying[variant], GIVEN if variant == "WrongReply" else []) for answer, _, variant, place in REPLIES])
+        (answer, place, SAID.get(answer) or saying[variant], []) for answer, _, variant, place in REPLIES])
     group(out, page, "A record is refused (`marshal`, `count`, `reply`)", [
         (answer, place, SAID.get(answer) or record[variant], refusals(*OF_RECORDS[answer])) for answer, _, variant, place in RECORDS])
     entries = [("! hex", "", SAID["! hex"], refusals("HEX"))]
@@ -247,8 +217,8 @@ def page():
     entries += [(f"! body {word}", "AT", doc, page.of_word("body_cause", word)) for word, doc in variants("body").items()]
     entries += [("! trailing", "AT", message["Trailing"], refusals("TRAILING"))]
     group(out, page, "A message is refused (`unmarshal`, `unreply`, `serve`)", entries, [
-        f"Of a head: {page.causes['refusals', 'HEAD_OTHER']['repair']}"])
+        f"{whole(page.causes['refusals', 'HEAD_OTHER']['repair'])} It says over which BACK a fault comes, and shows faults of bodies."])
     entries = [(f"! frame {word}", "", doc, page.of_word("frame_cause", word)) for word, doc in variants("frame").items()]
     entries += [("! frame Cut", "", SAID["! frame Cut"], page.of_word("frame_cause", "Cut"))]
-    group(out, page, "A stream is refused (`unpipe`)", entries, ["It is the last line: nothing more is read. The messages before it are answered."])
+    group(out, page, "A stream is refused (`unpipe`)", entries, ["It is the last line; the messages before it are answered."])
     return "\n".join(out) + "\n"
