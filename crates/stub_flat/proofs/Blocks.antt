@@ -154,10 +154,10 @@ module _ (N : List Node) (table : IsTable N) (h : Head) (c : Calls) (d : Answers
   run b v o = on_some (steps c h b v) (wrote 0 o)
 
   -- octets, and after them those of items, if as many numbers lack octets
-  abbrev says : ℕ → Items → Val → List ℕ → Ends
+  abbrev pub says : ℕ → Items → Val → List ℕ → Ends
   says n i v o = on_some (fitting n o) (tell d h i v)
 
-  to_told : (b : Block) (s : Spot) (S T : Residues) (i : Items) (v : Val) (o : List ℕ) → items N s b S ≡ Some i
+  pub to_told : (b : Block) (s : Spot) (S T : Residues) (i : Items) (v : Val) (o : List ℕ) → items N s b S ≡ Some i
       → Goes (run b v o) (says (misfits h v b) i v o) T → Goes (run b v o) (told d h i v o) T
   to_told b s S T i v o e g =
       goes_to (run b v o) (says (misfits h v b) i v o) (told d h i v o) T

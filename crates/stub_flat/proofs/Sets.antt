@@ -133,11 +133,11 @@ single_at (suc k) S r e lt s = by (S k) refl e (λ f low. single_at k S r f low 
 -- ---- what a way does not leave
 
 closing_has : (n : ℕ) (f : Residues → Residues) (S : Residues) → Within S (closing n f S)
-closing_has zero f S r lt s = s
+closing_has zero f S = λ r lt s. s
 closing_has (suc n) f S = by (is_within (f S) S) (closing_has n f (sum S (f S))) where
   by : (t : Bool) → Within (sum S (f S)) (closing n f (sum S (f S))) → Within S (if t then S else closing n f (sum S (f S)))
-  by true more r lt s = s
-  by false more r lt s = more r lt (or_first (S r) (f S r) s)
+  by true more = λ r lt s. s
+  by false more = λ r lt s. more r lt (or_first (S r) (f S r) s)
 
 closing_within : (n : ℕ) (f : Residues → Residues) (S : Residues) → 8 ≤ n + size_first 8 S → Within (f (closing n f S)) (closing n f S)
 closing_within zero f S le = λ r lt s. full_at 8 S r (omega (arith, le)) lt
@@ -188,7 +188,8 @@ at_padded a S o is h =
     let none : 0 + length o ≡ length o = omega arith in
     let gaps : n ≡ gap (length o) a = ap (λ (i : ℕ). gap i a) none in
     let turns = gap_turns a is (length o) in
-    let all : length (o ++ replicate n 0) ≡ length o + length (replicate n 0) = length-append o (replicate n 0) in
-    let zeros : length {A = ℕ} (replicate n 0) ≡ n = length-replicate n 0 in
-    let same : (length o % 8 + gap (length o % 8) a) % 8 ≡ length (o ++ replicate n 0) % 8 = omega (arith, gaps, turns, all, zeros) in
-    comes_there 8 a S (length o % 8) (length (o ++ replicate n 0) % 8) (omega arith) h same
+    let zeros : List ℕ = replicate n 0 in
+    let all : length (o ++ zeros) ≡ length o + length zeros = length-append o zeros in
+    let long : length zeros ≡ n = length-replicate n 0 in
+    let same : (length o % 8 + gap (length o % 8) a) % 8 ≡ length (o ++ zeros) % 8 = omega (arith, gaps, turns, all, long) in
+    comes_there 8 a S (length o % 8) (length (o ++ zeros) % 8) (omega arith) h same
