@@ -22,3 +22,5 @@ mod Blocks
 mod Found
 -- * Codes of one flat have one meaning, by induction on the depth of calls
 mod OneMeaning
+-- Codes worked by hand: what is left of them
+mod Worked
