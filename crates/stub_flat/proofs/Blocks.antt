@@ -1,5 +1,5 @@
 -- A block appends what its items append, from each position whose residue they were made for, by induction on the block.
-use Rattle.std.proofs.Common.{◌≡◌, ℕ, zero, suc, ◌+◌, ◌-◌, ◌*◌, ◌%◌, ◌<◌, ◌≤◌, ◌^◌, ℤ, List, [], ◌∷◌, ◌++◌, length, map, replicate, take, drop, Option, None, Some, option_map, Bool, true, false, ◌&&◌, if◌then◌else◌, nat_eq, nat_le, is_some, IsTrue, refl, sym, ap, subst, ◌∙◌, arith, length-append}
+use Rattle.std.proofs.Common.{◌≡◌, ℕ, zero, suc, ◌+◌, ◌-◌, ◌*◌, ◌%◌, ◌≤◌, ◌^◌, ℤ, List, [], ◌∷◌, ◌++◌, length, replicate, take, drop, Option, None, Some, option_map, Bool, true, false, ◌&&◌, if◌then◌else◌, nat_eq, nat_le, is_some, IsTrue, refl, sym, ap, subst, ◌∙◌, arith, length-append}
 use Rattle.std.specs.List.{AllByRecursion, list_all}
 use Rattle.std.specs.Ordering.{int_eq}
 use Rattle.std.proofs.lemmas.Bool.{eqb-true, leb-true}
@@ -7,7 +7,7 @@ use Rattle.std.proofs.lemmas.List.{length-take-le, length-drop}
 use Rattle.kit_base.specs.Bytes.{written}
 use Rattle.mint.specs.declared.kind.Kind.{Kind}
 use Rattle.mint.specs.declared.node.Node.{Node}
-use Rattle.mint.specs.Kinds.{in_range, width}
+use Rattle.mint.specs.Kinds.{in_range}
 use Rattle.mint.specs.Row.{image_of}
 use Rattle.mint.specs.Typed.{Each}
 use Rattle.mint.specs.Types.{IsTable}
@@ -17,35 +17,25 @@ use Rattle.wire_def.specs.declared.head.Order.{Order}
 use Rattle.wire_def.specs.declared.head.Order.TheVariants.{Big, Little}
 use Rattle.wire_def.specs.Orders.{in_order}
 use Rattle.wire_def.specs.Scalars.{gap}
-use Rattle.cast_stub.specs.declared.put.Put.{Put}
 use Rattle.cast_stub.specs.Block.{Block, stop, ensure, ensure_row, align, chunk, row_copy, row_swap, row_wide, each, switch, if_there, call, patch, Cases, no_default, default, case}
 use Rattle.cast_stub.specs.Parts.{on_some, at, elements_in, length_in}
-use Rattle.cast_stub.specs.Steps.{Step, Room, Pad, Stored, Widened, Copied, Patched, Steps, both, is_width, chunk_steps, align_steps, row_room, swapped, wide, copy_steps, swap_steps, wide_steps, Calls, over, if_present as steps_if_present, steps, case_steps}
+use Rattle.cast_stub.specs.Steps.{Room, Pad, Widened, Copied, Patched, Steps, both, is_width, chunk_steps, align_steps, swapped, wide, copy_steps, swap_steps, wide_steps, Calls, over, if_present as steps_if_present, steps, case_steps}
 use Rattle.cast_stub.specs.Meaning as meaning
 use Rattle.cast_stub.specs.Meaning.{wrote}
 use Rattle.stub_flat.specs.Places.{Spot, node_of, spot_at, element, present as present_spot, row_kind, has_length, arm_spot, has_case, rest_spot}
 use Rattle.stub_flat.specs.Residues.{Residues, every, sum, moved, aligned, closed, size_first, single_first}
 use Rattle.stub_flat.specs.Leaves.{width_of, leaves, ways_leave}
-use Rattle.stub_flat.specs.Items.{num, Cell, fixed, Items, done, octet, zeros, loop, ways, if_present, called, patched, Ways, no_way, other, way, octets, ordered, cells, align_items, row_items, is_row, items, way_items}
+use Rattle.stub_flat.specs.Items.{num, Cell, fixed, Items, done, zeros, loop, ways, if_present, called, patched, Ways, no_way, other, way, octets, ordered, cells, align_items, row_items, is_row, items, way_items}
 use Rattle.stub_flat.specs.Flat.{Called, calls, way_calls}
 use Rattle.stub_flat.proofs.Chunks.{values, chunk_told, values_long, tell_octets}
 use Rattle.stub_flat.proofs.Counted.{block_lacks}
-use Rattle.stub_flat.proofs.Ends.{Ends, some_of, mapped_of, provided_of, fitting, fit_two, At, Goes, goes_none, goes_one, goes_eq, goes_in, then_goes, run_both, op_goes}
+use Rattle.stub_flat.proofs.Ends.{Ends, some_of, mapped_of, provided_of, fitting, fit_two, At, Goes, goes_none, goes_one, goes_in, then_goes, run_both, op_goes}
+use Rattle.stub_flat.proofs.Found.{calls_first, calls_second}
 use Rattle.stub_flat.proofs.Octets.{Wide, four, wide_is}
-use Rattle.stub_flat.proofs.PartsTyped.{IsAt, IsOfNode, IsPart, HasLength, node_typed, part_at, length_part, elements_part, present_part, arm_part, rest_part, same_number}
+use Rattle.stub_flat.proofs.PartsTyped.{IsAt, IsOfNode, IsPart, node_typed, part_at, length_part, elements_part, present_part, arm_part, rest_part, same_number}
 use Rattle.stub_flat.proofs.Rows.{words_over, width_wide, image_words, swapped_words, wide_words, row_goes, row_there}
-use Rattle.stub_flat.proofs.Sets.{Within, or_first, or_second, single_at, closed_has, closed_within, at_within, at_moved, at_padded, gap_turns}
-use Rattle.stub_flat.proofs.Told.{Answers, over_all, for_present, tell, tell_way, told, gain, loss, weigh, lacks, misfits}
-
--- ---- the parts of a list of calls
-
-pub calls_first : (P : Called → Type 0) (a b : List Called) → AllByRecursion P (a ++ b) → AllByRecursion P a
-calls_first P [] b h = tt
-calls_first P (k ∷ a) b h = (h.0, calls_first P a b h.1)
-
-pub calls_second : (P : Called → Type 0) (a b : List Called) → AllByRecursion P (a ++ b) → AllByRecursion P b
-calls_second P [] b h = h
-calls_second P (k ∷ a) b h = calls_second P a b h.1
+use Rattle.stub_flat.proofs.Sets.{or_first, or_second, single_at, closed_has, closed_within, at_within, at_moved, at_padded, gap_turns}
+use Rattle.stub_flat.proofs.Told.{Answers, over_all, for_present, tell, tell_way, told, lacks, misfits}
 
 -- ---- ends
 
@@ -223,11 +213,11 @@ module _ (N : List Node) (table : IsTable N) (h : Head) (c : Calls) (d : Answers
 
   -- ---- an operation without
 
-  room_goes : (p : List ℕ) (u x : ℕ) (sp : Spot) (a : Option Val) → IsPart N a sp → has_length (node_of N sp) ≡ true → (y : Steps) (o : List ℕ)
+  room_goes : (u x : ℕ) (sp : Spot) (a : Option Val) → IsPart N a sp → has_length (node_of N sp) ≡ true → (y : Steps) (o : List ℕ)
       → on_some (both (on_some (on_some a length_in) (λ n. Some (Room (n * u + x) ∷ []))) y) (wrote 0 o) ≡ on_some y (wrote 0 o)
-  room_goes p u x sp None t e y o =
+  room_goes u x sp None t e y o =
       let none : has_length (node_of N None) ≡ true = subst (λ (q : Spot). has_length (node_of N q) ≡ true) t e in absurd cc
-  room_goes p u x sp (Some w) t e y o =
+  room_goes u x sp (Some w) t e y o =
       let r = length_part N (node_of N sp) w e (node_typed N table sp w t) in
       ap (λ (z : Option ℕ). on_some (both (on_some z (λ n. Some (Room (n * u + x) ∷ []))) y) (wrote 0 o)) r.is
       ∙ run_both (Some (Room (r.long * u + x) ∷ [])) y o
@@ -276,7 +266,7 @@ module _ (N : List Node) (table : IsTable N) (h : Head) (c : Calls) (d : Answers
     block_goes (ensure_row p u x r) s S i v o e t a here =
         let f = provided_of (has_length (node_of N (spot_at N p s))) (items N s r S) i e in
         goes_from (run (ensure_row p u x r) v o) (run r v o) (says (misfits h v r) i v o) (leaves N s r S)
-        (room_goes p u x (spot_at N p s) (at p v) (part_at N table p s v t) f.0 (steps c h r v) o) (block_goes r s S i v o f.1 t a here)
+        (room_goes u x (spot_at N p s) (at p v) (part_at N table p s v t) f.0 (steps c h r v) o) (block_goes r s S i v o f.1 t a here)
     block_goes (align k r) s S i v o e t a here =
         let T = leaves N s (align k stop) S in
         let f = provided_of (is_width k) (option_map (align_items k S) (items N s r T)) i e in

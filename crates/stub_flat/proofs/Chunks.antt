@@ -1,5 +1,5 @@
 -- A chunk appends the octets of its items where each of its numbers fits, else it has none, by induction on puts and cells.
-use Rattle.std.proofs.Common.{◌≡◌, ℕ, zero, suc, ◌+◌, ◌-◌, ◌*◌, ◌<◌, ℤ, pos, List, [], ◌∷◌, ◌++◌, length, map, reverse, replicate, Option, Some, None, option_map, Bool, true, false, if◌then◌else◌, nat_lt, ◌&&◌, refl, sym, ap, ◌∙◌, subst, arith, append_assoc, append-nil}
+use Rattle.std.proofs.Common.{◌≡◌, ℕ, zero, suc, ◌+◌, ◌-◌, ◌*◌, ◌<◌, ℤ, pos, List, [], ◌∷◌, ◌++◌, length, map, replicate, Option, Some, None, option_map, Bool, true, false, if◌then◌else◌, nat_lt, ◌&&◌, refl, sym, ap, ◌∙◌, arith, append_assoc, append-nil}
 use Rattle.std.proofs.lemmas.Bool.{lt-ltb, ltb-true}
 use Rattle.std.proofs.lemmas.List.{length-map}
 use Rattle.mint.specs.Values.{Val}
@@ -14,11 +14,12 @@ use Rattle.cast_stub.specs.Parts.{on_some, at, length_in}
 use Rattle.cast_stub.specs.Puts.{word, put_octets, offset, Cells, placed, put_one, put_all, full, filled}
 use Rattle.cast_stub.specs.Steps.{Stored, chunk_steps}
 use Rattle.cast_stub.specs.Meaning.{wrote}
-use Rattle.stub_flat.specs.Items.{Source, num, tag, flag, count, short, head, Cell, fixed, part, Items, done, octets, parts, ordered, word_of, piece, Places, put_on, puts_on, all_put, cells}
+use Rattle.cast_stub.proofs.Putting.{if_so}
+use Rattle.stub_flat.specs.Items.{Source, num, tag, flag, count, short, head, Cell, fixed, Items, done, octets, ordered, word_of, piece, Places, put_on, puts_on, all_put, cells}
 use Rattle.stub_flat.proofs.Counted.{word_wide, wide_counts, unput, octets_weigh}
-use Rattle.stub_flat.proofs.Ends.{Ends, some_of, mapped_of, fitting, fit_then, fit_map}
+use Rattle.stub_flat.proofs.Ends.{some_of, mapped_of, fitting, fit_then, fit_map}
 use Rattle.stub_flat.proofs.Octets.{Wide, one, two, four, eight, spelled, lack, word_spelled}
-use Rattle.stub_flat.proofs.Told.{described, number_of, value, gain, loss, total, weigh, Answers, tell, told, put_lacks, lacks}
+use Rattle.stub_flat.proofs.Told.{described, number_of, value, gain, loss, weigh, Answers, tell, told, put_lacks, lacks}
 
 -- ---- what a put takes of a value
 
@@ -36,10 +37,6 @@ both_hold : (a b : Bool) → (a && b) ≡ true → (a ≡ true) × (b ≡ true)
 both_hold true b e = (refl, e)
 both_hold false b e = absurd cc
 
-if_so : (b : Bool) (n : ℕ) → b ≡ true → (if b then Some n else None) ≡ Some n
-if_so true n e = refl
-if_so false n e = absurd cc
-
 -- a short descriptor is a word
 described_is : (name size n : ℕ) → descriptor name size n ≡ on_some (described name size n) (word 4 Little)
 described_is name size n = by (nat_lt name 256 && (nat_lt size 256 && nat_lt n 4096)) refl where
@@ -54,7 +51,9 @@ described_is name size n = by (nat_lt name 256 && (nat_lt size 256 && nat_lt n 4
 
   by : (t : Bool) → (nat_lt name 256 && (nat_lt size 256 && nat_lt n 4096)) ≡ t
       → (if t then Some (in_order Little 4 m) else None) ≡ on_some (if t then Some (pos m) else None) (word 4 Little)
-  by true t = sym (ap (λ (o : Option ℕ). on_some o (λ k. Some (in_order Little 4 k))) (if_so (nat_lt m 4294967296) m (lt-ltb m 4294967296 (few t))))
+  by true t =
+      let fits = if_so (nat_lt m 4294967296) m (lt-ltb m 4294967296 (few t)) in
+      sym (ap (λ (o : Option ℕ). on_some o (λ k. Some (in_order Little 4 k))) fits)
   by false t = refl
 
 module _ (h : Head) (v : Val) where

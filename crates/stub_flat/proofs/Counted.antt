@@ -1,5 +1,5 @@
 -- How many numbers of a block lack octets is counted in its items: sums over cells, puts and chunks.
-use Rattle.std.proofs.Common.{◌≡◌, ℕ, zero, suc, ◌+◌, ◌-◌, ℤ, List, [], ◌∷◌, ◌++◌, length, map, reverse, replicate, Option, Some, None, option_map, Bool, true, false, if◌then◌else◌, nat_eq, refl, sym, ap, ◌∙◌, subst, arith}
+use Rattle.std.proofs.Common.{◌≡◌, ℕ, zero, suc, ◌+◌, ◌-◌, List, [], ◌∷◌, map, replicate, Option, Some, None, option_map, Bool, true, false, if◌then◌else◌, nat_eq, refl, ap, subst, arith}
 use Rattle.mint.specs.declared.node.Node.{Node}
 use Rattle.mint.specs.Values.{Val}
 use Rattle.wire_def.specs.declared.head.Order.{Order}
@@ -8,14 +8,14 @@ use Rattle.wire_def.specs.declared.head.Head.{Head}
 use Rattle.wire_def.specs.Scalars.{gap}
 use Rattle.cast_stub.specs.declared.put.Put.{Put}
 use Rattle.cast_stub.specs.declared.put.Put.TheVariants as put
-use Rattle.cast_stub.specs.Block.{Block, stop, ensure, ensure_row, align, chunk, row_copy, row_swap, row_wide, each, switch, if_there, call, patch, Cases}
+use Rattle.cast_stub.specs.Block.{Block, stop, ensure, ensure_row, align, chunk, row_copy, row_swap, row_wide, each, switch, if_there, call, patch}
 use Rattle.cast_stub.specs.Parts.{on_some}
 use Rattle.cast_stub.specs.Puts.{offset}
 use Rattle.cast_stub.specs.Steps.{is_width}
 use Rattle.stub_flat.specs.Places.{Spot, node_of, spot_at, element, present, row_kind, has_length}
 use Rattle.stub_flat.specs.Residues.{Residues, every, closed, moved, size_first, single_first}
 use Rattle.stub_flat.specs.Leaves.{width_of, leaves}
-use Rattle.stub_flat.specs.Items.{Source, num, tag, flag, count, short, head, Cell, fixed, part, Items, done, octet, zeros, loop, ways, if_present, called, patched, Ways, octets, parts, ordered, word_of, piece, Places, put_on, puts_on, all_put, cells, align_items, row_items, provided, is_row, items, way_items}
+use Rattle.stub_flat.specs.Items.{Source, num, tag, flag, count, short, head, Cell, fixed, Items, done, zeros, loop, ways, if_present, called, patched, Ways, octets, ordered, word_of, piece, Places, put_on, puts_on, all_put, cells, align_items, row_items, is_row, items, way_items}
 use Rattle.stub_flat.proofs.Ends.{some_of, mapped_of, provided_of}
 use Rattle.stub_flat.proofs.Octets.{Wide, one, two, four, eight, wide_is, lack}
 use Rattle.stub_flat.proofs.Told.{number_of, gain, loss, total, weigh, put_lacks, lacks, misfits}

@@ -1,5 +1,5 @@
 -- Each call of the codes that are found leads to the node of the code that it names, by induction on the rounds.
-use Rattle.std.proofs.Common.{◌≡◌, ◌⊎◌, inl, inr, ℕ, zero, suc, ◌+◌, ◌<◌, ◌≤◌, List, [], ◌∷◌, ◌++◌, length, map, Option, None, Some, option_map, Bool, true, false, if◌then◌else◌, nat_eq, nat_lt, slice_get, refl, sym, ap, subst, ◌∙◌, arith}
+use Rattle.std.proofs.Common.{◌≡◌, ◌⊎◌, inl, inr, ℕ, zero, suc, ◌<◌, ◌≤◌, List, [], ◌∷◌, ◌++◌, length, Option, None, Some, option_map, Bool, true, false, if◌then◌else◌, nat_eq, nat_lt, slice_get, refl, sym, ap, subst, ◌∙◌, arith}
 use Rattle.std.specs.List.{AllByRecursion}
 use Rattle.std.proofs.lemmas.Bool.{cases_lt, eqb-true, ltb-false}
 use Rattle.mint.specs.declared.node.Node.{Node}
@@ -10,6 +10,16 @@ use Rattle.stub_flat.specs.Residues.{every}
 use Rattle.stub_flat.specs.Items.{Items, items}
 use Rattle.stub_flat.specs.Flat.{Called, calls, Spots, noted, all_noted, calls_of_known, found_in, unknown, spots, list_items}
 use Rattle.stub_flat.proofs.Ends.{some_of, mapped_of}
+
+-- ---- the parts of a list of calls
+
+pub calls_first : (P : Called → Type 0) (a b : List Called) → AllByRecursion P (a ++ b) → AllByRecursion P a
+calls_first P [] b h = tt
+calls_first P (k ∷ a) b h = (h.0, calls_first P a b h.1)
+
+pub calls_second : (P : Called → Type 0) (a b : List Called) → AllByRecursion P (a ++ b) → AllByRecursion P b
+calls_second P [] b h = h
+calls_second P (k ∷ a) b h = calls_second P a b h.1
 
 -- ---- more nodes that are known
 
@@ -228,14 +238,6 @@ spots_are N s b bs ts e =
 
 -- ---- the codes of a list
 
-agree_first : (ts : Spots) (a b : List Called) → AllAgree ts (a ++ b) → AllAgree ts a
-agree_first ts [] b h = tt
-agree_first ts (k ∷ a) b h = (h.0, agree_first ts a b h.1)
-
-agree_second : (ts : Spots) (a b : List Called) → AllAgree ts (a ++ b) → AllAgree ts b
-agree_second ts [] b h = h
-agree_second ts (k ∷ a) b h = agree_second ts a b h.1
-
 -- the code that a call names, with its items
 pub record IsListed (N : List Node) (us : Spots) (bs : List Block) (is : List Items) (k n : ℕ) : Type 0 where
   pub code : Block
@@ -261,12 +263,12 @@ listed N us (b ∷ bs) (Some m ∷ ts) is zero n e f a =
       there = refl;
       found = ap (λ (l : List Items). slice_get l zero) (sym y.1.1);
       made = subst (λ (j : ℕ). items N (Some j) b every ≡ Some x.0) same x.1.0;
-      agree = subst (λ (j : ℕ). AllAgree us (calls N (Some j) b)) same (agree_first us (calls N (Some m) b) (calls_of_known N bs ts) a);
+      agree = subst (λ (j : ℕ). AllAgree us (calls N (Some j) b)) same (calls_first (λ c. Agrees us c) (calls N (Some m) b) (calls_of_known N bs ts) a);
     }
 listed N us (b ∷ bs) (Some m ∷ ts) is (suc k) n e f a =
     let x = some_of (items N (Some m) b every) (λ (i : Items). option_map (λ (l : List Items). i ∷ l) (list_items N bs ts)) is e in
     let y = mapped_of (list_items N bs ts) (λ (l : List Items). x.0 ∷ l) is x.1.1 in
-    let r = listed N us bs ts y.0 k n y.1.0 f (agree_second us (calls N (Some m) b) (calls_of_known N bs ts) a) in
+    let r = listed N us bs ts y.0 k n y.1.0 f (calls_second (λ c. Agrees us c) (calls N (Some m) b) (calls_of_known N bs ts) a) in
     record {
       code = r.code;
       its = r.its;

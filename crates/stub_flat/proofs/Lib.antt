@@ -16,10 +16,10 @@ mod Sets
 mod PartsTyped
 -- A row operation appends what a loop over its numbers appends, by induction on the numbers
 mod Rows
--- A block appends what its items append, from each position whose residue they were made for, by induction on the block
-mod Blocks
 -- Each call of the codes that are found leads to the node of the code that it names, by induction on the rounds
 mod Found
+-- A block appends what its items append, from each position whose residue they were made for, by induction on the block
+mod Blocks
 -- * Codes of one flat have one meaning, by induction on the depth of calls
 mod OneMeaning
 -- Codes worked by hand: what is left of them

@@ -1,5 +1,5 @@
 -- The octets of a number by their place, whatever its width is.
-use Rattle.std.proofs.Common.{◌≡◌, ℕ, zero, suc, ◌+◌, ◌-◌, ◌/◌, ◌%◌, ◌<◌, ℤ, pos, negsuc, List, [], ◌∷◌, ◌++◌, length, map, reverse, Option, Some, None, Bool, true, false, if◌then◌else◌, nat_eq, nat_lt, ◌||◌, refl, sym, ap, ◌∙◌, subst, arith}
+use Rattle.std.proofs.Common.{◌≡◌, ℕ, zero, suc, ◌-◌, ◌<◌, ℤ, pos, negsuc, List, [], ◌∷◌, ◌++◌, length, map, reverse, Option, Some, None, Bool, true, false, if◌then◌else◌, nat_eq, nat_lt, ◌||◌, refl, sym, ap, ◌∙◌, subst, arith}
 use Rattle.std.specs.Int.{byte_at}
 use Rattle.std.proofs.lemmas.Bool.{eqb-true, ltb-true}
 use Rattle.wire_def.specs.declared.head.Order.{Order}
@@ -113,7 +113,8 @@ turned_four n m o lt e = by o where
   by Little = rw (at_0, at_1, at_2, at_3) refl
   by Big = rw (at_0, at_1, at_2, at_3) refl
 
-turned_eight : (n m : ℕ) (o : Order) → n < 9223372036854775808 → 18446744073709551615 - n ≡ m → spelled (Some (negsuc n)) 8 o ≡ in_order o 8 m
+turned_eight : (n m : ℕ) (o : Order) → n < 9223372036854775808 → 18446744073709551615 - n ≡ m
+    → spelled (Some (negsuc n)) 8 o ≡ in_order o 8 m
 turned_eight n m o lt e = by o where
   at_0 : 255 - byte_at 0 n ≡ byte_at 0 m
   at_0 = omega arith

@@ -11,7 +11,7 @@ use Rattle.mint.specs.Arms.{arm_found}
 use Rattle.mint.specs.Kinds.{in_range, is_letter}
 use Rattle.mint.specs.Typed.{Each, IsOf, AreOf, IsOfArm}
 use Rattle.mint.specs.Types.{Ty, at as tree, fields_at, arms_at, level, unfolded, type_at, IsTable}
-use Rattle.mint.specs.Values.{Val, num, row, group, items, arm, absent, present, Vals, no_more, val, count}
+use Rattle.mint.specs.Values.{Val, row, group, items, arm, present, Vals, no_more, val, count}
 use Rattle.mint.proofs.Unfolding.{type_at-level}
 use Rattle.cast_stub.specs.Block.{Cases}
 use Rattle.cast_stub.specs.Parts.{on_some, field, in_group, at, elements_in, length_in}

@@ -17,7 +17,7 @@ use Rattle.wire_def.specs.declared.head.Order.TheVariants.{Big, Little}
 use Rattle.wire_def.specs.Orders.{in_order}
 use Rattle.cast_stub.specs.Parts.{on_some, elements_in}
 use Rattle.cast_stub.specs.Puts.{word, half_of, wrapped}
-use Rattle.cast_stub.specs.Steps.{Steps, Copied, Widened, swapped, wide}
+use Rattle.cast_stub.specs.Steps.{Steps, swapped, wide}
 use Rattle.cast_stub.specs.Meaning.{wrote}
 use Rattle.cast_stub.proofs.Putting.{if_so}
 use Rattle.stub_flat.specs.Items.{num, done, octets, ordered}
@@ -39,7 +39,8 @@ negat : (n r m most : ℕ) → n < most → r ≡ m → (if nat_lt n most then S
 negat n r m most lt same = if_so (nat_lt n most) r (lt-ltb n most lt) ∙ ap Some same
 
 -- a number of the kind in its word
-wrapped_is : (k : Kind) (z : ℤ) → IsTrue (in_range k z) → on_some (half_of (width k)) (λ h. wrapped h z) ≡ Some (cast_unsigned (own_word k) z)
+wrapped_is : (k : Kind) (z : ℤ) → IsTrue (in_range k z)
+    → on_some (half_of (width k)) (λ h. wrapped h z) ≡ Some (cast_unsigned (own_word k) z)
 wrapped_is kind.Octet (pos n) h = let lt : n < 256 = ltb-true n 256 h in posit n (cast_unsigned w8 (pos n)) 256 lt (omega arith)
 wrapped_is kind.U8 (pos n) h = let lt : n < 256 = ltb-true n 256 h in posit n (cast_unsigned w8 (pos n)) 256 lt (omega arith)
 wrapped_is kind.Char (pos n) h = let lt : n < 256 = ltb-true n 256 h in posit n (cast_unsigned w8 (pos n)) 256 lt (omega arith)

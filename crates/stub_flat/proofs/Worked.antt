@@ -7,7 +7,7 @@ use Rattle.mint.specs.declared.node.Node.TheVariants as node
 use Rattle.mint.specs.declared.node.Tag.TheVariants as tag_node
 use Rattle.wire_def.specs.declared.head.Order.TheVariants.{Big, Little}
 use Rattle.cast_stub.specs.declared.put.Put.TheVariants as put
-use Rattle.cast_stub.specs.Block.{Block, stop, ensure, align, chunk, row_copy, each, switch, call, no_default, default, case}
+use Rattle.cast_stub.specs.Block.{Block, stop, ensure, align, chunk, row_copy, each, switch, call, default}
 use Rattle.stub_flat.specs.Residues.{only, every}
 use Rattle.stub_flat.specs.Items.{num, fixed, part, Items, done, octet, zeros, cells, items}
 use Rattle.stub_flat.specs.Flat.{spots, list_items}

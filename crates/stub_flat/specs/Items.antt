@@ -1,5 +1,5 @@
 -- What is left of code when all is taken from it that its meaning does not depend on.
-use Rattle.std.specs.Prelude.{ℕ, zero, suc, ◌+◌, ◌-◌, ◌%◌, ◌≤◌, ℤ, Bool, List, [], ◌∷◌, ◌++◌, length, map, reverse, replicate, Option, Some, None, is_some, option_map, nat_eq, nat_le, if◌then◌else◌, ◌&&◌}
+use Rattle.std.specs.Prelude.{ℕ, zero, suc, ℤ, Bool, List, [], ◌∷◌, ◌++◌, map, reverse, replicate, Option, Some, None, is_some, option_map, nat_eq, if◌then◌else◌}
 use Rattle.wire_def.specs.declared.head.Order.{Order}
 use Rattle.wire_def.specs.declared.head.Order.TheVariants.{Big, Little}
 use Rattle.wire_def.specs.Scalars.{gap}
@@ -12,8 +12,8 @@ use Rattle.cast_stub.specs.Puts.{offset}
 use Rattle.cast_stub.specs.Steps.{is_width}
 use Rattle.cast_stub.specs.Block.{Block, stop, ensure, ensure_row, align, chunk, row_copy, row_swap, row_wide, each, switch, if_there, call, patch, Cases, no_default, default, case}
 use Rattle.stub_flat.specs.Places.{Spot, node_of, spot_at, element, present, row_kind, has_length, arm_spot, rest_spot}
-use Rattle.stub_flat.specs.Residues.{Residues, only, every, closed, moved, size_first, single_first}
-use Rattle.stub_flat.specs.Leaves.{width_of, leaves, ways_leave}
+use Rattle.stub_flat.specs.Residues.{Residues, every, closed, moved, size_first, single_first}
+use Rattle.stub_flat.specs.Leaves.{width_of, leaves}
 
 -- ---- items
 
@@ -144,7 +144,8 @@ abbrev mutual
       let inner = element (node_of N (spot_at N p s)) in
       on_some (items N inner b (closed (leaves N inner b) S)) (λ bs. option_map (loop p bs) (items N s r (leaves N s (each p b stop) S)))
   items N s (switch p cs r) S =
-      on_some (way_items N (node_of N (spot_at N p s)) cs cs S) (λ ws. option_map (ways p ws) (items N s r (leaves N s (switch p cs stop) S)))
+      on_some (way_items N (node_of N (spot_at N p s)) cs cs S)
+      (λ ws. option_map (ways p ws) (items N s r (leaves N s (switch p cs stop) S)))
   items N s (if_there p b r) S =
       on_some (items N (present (node_of N (spot_at N p s))) b S)
       (λ bs. option_map (if_present p bs) (items N s r (leaves N s (if_there p b stop) S)))

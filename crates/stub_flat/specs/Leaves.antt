@@ -1,5 +1,5 @@
 -- To which residues of a position code leads.
-use Rattle.std.specs.Prelude.{ℕ, ◌+◌, ℤ, List, Option, Some, None, if◌then◌else◌}
+use Rattle.std.specs.Prelude.{ℕ, List, Option, Some, None, if◌then◌else◌}
 use Rattle.mint.specs.Kinds.{width}
 use Rattle.mint.specs.declared.kind.Kind.{Kind}
 use Rattle.mint.specs.declared.node.Node.{Node}

@@ -1,6 +1,5 @@
 -- The types of places: the number of a node, or none where nothing is known.
-use Rattle.std.specs.Prelude.{ℕ, zero, suc, ℤ, Bool, true, false, ◌&&◌, List, [], ◌∷◌, Option, Some, None, slice_get, if◌then◌else◌}
-use Rattle.std.specs.List.{list_any}
+use Rattle.std.specs.Prelude.{ℕ, ℤ, Bool, true, false, ◌&&◌, List, [], ◌∷◌, Option, Some, None, slice_get, if◌then◌else◌}
 use Rattle.std.specs.Ordering.{int_eq}
 use Rattle.mint.specs.declared.kind.Kind.{Kind}
 use Rattle.mint.specs.declared.kind.Kind.TheVariants as kinds
@@ -10,7 +9,7 @@ use Rattle.mint.specs.declared.node.Node.{Node}
 use Rattle.mint.specs.declared.node.Node.TheVariants as node
 use Rattle.mint.specs.Arms.{arm_found}
 use Rattle.cast_stub.specs.Parts.{on_some}
-use Rattle.cast_stub.specs.Block.{Block, Cases, no_default, default, case}
+use Rattle.cast_stub.specs.Block.{Cases, no_default, default, case}
 
 -- the number of a node, if it is known
 abbrev pub Spot : Type 0
