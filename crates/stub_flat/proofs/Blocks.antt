@@ -349,8 +349,8 @@ module _ (N : List Node) (table : IsTable N) (h : Head) (c : Calls) (d : Answers
         let inside = calls_first IsAnswered (calls N inner b) (calls N s r) a in
         let behind = calls_second IsAnswered (calls N inner b) (calls N s r) a in
         let turn = λ (w : Val) (y : List ℕ) (u : IsAt N inner w) (at : At T y).
-            goes_in (run b w y) (told d h x.0 w y) (way T) T (at_within (way T) T (closed_within way S))
-            (to_told b inner T (way T) x.0 w y x.1.0 (block_goes b inner T x.0 w y x.1.0 u inside at)) in
+        goes_in (run b w y) (told d h x.0 w y) (way T) T (at_within (way T) T (closed_within way S))
+        (to_told b inner T (way T) x.0 w y x.1.0 (block_goes b inner T x.0 w y x.1.0 u inside at)) in
         let first = each_goes (steps c h b) (told d h x.0) T sp turn (at p v) (part_at N table p s v t) o
         (at_within S T (closed_has way S) o here) in
         subst (λ (y : Items). Goes (run (each p b r) v o) (says (misfits h v r) y v o) (leaves N s r T)) m.1.1

@@ -263,7 +263,8 @@ listed N us (b ∷ bs) (Some m ∷ ts) is zero n e f a =
       there = refl;
       found = ap (λ (l : List Items). slice_get l zero) (sym y.1.1);
       made = subst (λ (j : ℕ). items N (Some j) b every ≡ Some x.0) same x.1.0;
-      agree = subst (λ (j : ℕ). AllAgree us (calls N (Some j) b)) same (calls_first (λ c. Agrees us c) (calls N (Some m) b) (calls_of_known N bs ts) a);
+      agree = subst (λ (j : ℕ). AllAgree us (calls N (Some j) b)) same
+          (calls_first (λ c. Agrees us c) (calls N (Some m) b) (calls_of_known N bs ts) a);
     }
 listed N us (b ∷ bs) (Some m ∷ ts) is (suc k) n e f a =
     let x = some_of (items N (Some m) b every) (λ (i : Items). option_map (λ (l : List Items). i ∷ l) (list_items N bs ts)) is e in

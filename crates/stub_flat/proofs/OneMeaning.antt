@@ -76,7 +76,21 @@ module _ (N : List Node) (table : IsTable N) (h : Head) (subs : List (List SendO
       → AllByRecursion (IsAnswered N table h (called (sub_at subs) h n) (answers h is n)) cs
   all_answered n cs a = each_answered n (λ k s b w t o. calls_answered n k s b w t o) cs a
 
--- what a code of a flat appends is told by the flat
+-- what a code appends is told by the parts of its flat
+parts_told : (N : List Node) → IsTable N → (id : ℕ) (code : SendCode) (h : Head) (v : Val) → IsWellTyped (type_at N id) v
+    → (ts : Spots) (i : Items) (is : List Items) → spots N (Some id) (code_seen code.ops) (map code_seen code.subs) ≡ Some ts
+    → items N (Some id) (code_seen code.ops) (only 0) ≡ Some i → list_items N (map code_seen code.subs) ts ≡ Some is
+    → meaning code h v 0 ≡ told (answers h is deepest) h i v []
+parts_told N table id code h v t ts i is found made all =
+    let b = code_seen code.ops in
+    let c = called (sub_at code.subs) h deepest in
+    let d = answers h is deepest in
+    let agree = spots_are N (Some id) b (map code_seen code.subs) ts found in
+    let answered = all_answered N table h code.subs ts is all agree.subs deepest (calls N (Some id) b) agree.main in
+    (to_told N table h c d b (Some id) (only 0) (leaves N (Some id) b (only 0)) i v [] made
+    (block_goes N table h c d b (Some id) (only 0) i v [] made t.is_of answered refl)).same
+
+-- the same, of the flat
 flat_told : (N : List Node) → IsTable N → (id : ℕ) (code : SendCode) (f : Flats) (h : Head) (v : Val) → IsWellTyped (type_at N id) v
     → flat N id code ≡ Some f → meaning code h v 0 ≡ told (answers h f.1 deepest) h f.0 v []
 flat_told N table id code f h v t e =
@@ -86,13 +100,8 @@ flat_told N table id code f h v t e =
     (λ (ts : Spots). on_some (items N (Some id) b (only 0)) (λ i. option_map (λ is. (i, is)) (list_items N bs ts))) f e in
     let y = some_of (items N (Some id) b (only 0)) (λ (i : Items). option_map (λ is. (i, is)) (list_items N bs x.0)) f x.1.1 in
     let z = mapped_of (list_items N bs x.0) (λ (is : List Items). (y.0, is)) f y.1.1 in
-    let found = spots_are N (Some id) b bs x.0 x.1.0 in
-    let c = called (sub_at code.subs) h deepest in
-    let d = answers h z.0 deepest in
-    let answered = all_answered N table h code.subs x.0 z.0 z.1.0 found.subs deepest (calls N (Some id) b) found.main in
-    (to_told N table h c d b (Some id) (only 0) (leaves N (Some id) b (only 0)) y.0 v [] y.1.0
-    (block_goes N table h c d b (Some id) (only 0) y.0 v [] y.1.0 t.is_of answered refl)).same
-    ∙ ap (λ (g : Flats). told (answers h g.1 deepest) h g.0 v []) z.1.1
+    subst (λ (g : Flats). meaning code h v 0 ≡ told (answers h g.1 deepest) h g.0 v []) z.1.1
+    (parts_told N table id code h v t x.0 y.0 z.0 x.1.0 y.1.0 z.1.0)
 
 pub one_meaning : OneFlatOneMeaning
 one_meaning nodes id a b f h v table head typed e g =
