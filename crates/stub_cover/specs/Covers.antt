@@ -1,5 +1,5 @@
 -- Whether code appends only octets that it has ensured, by the types of places alone.
-use Rattle.std.specs.Prelude.{ℕ, zero, suc, Bool, true, false, ◌&&◌, ◌||◌, not, List, [], ◌∷◌, map, Option, Some, None, option_map, is_some, nat_le, nat_eq, if◌then◌else◌}
+use Rattle.std.specs.Prelude.{ℕ, zero, suc, Bool, true, false, ◌&&◌, ◌||◌, not, List, [], ◌∷◌, map, Option, Some, None, option_map, is_some, nat_le, if◌then◌else◌}
 use Rattle.std.specs.Str.{bytes_eq}
 use Rattle.mint.specs.declared.node.Node.{Node}
 use Rattle.cast_stub.specs.declared.send.SendCode.{SendCode}
@@ -133,9 +133,12 @@ list_runs N [] [] = true
 list_runs N (b ∷ bs) (s ∷ ts) = is_some (run N s b None (on every 0)) && list_runs N bs ts
 list_runs N _ _ = false
 
+-- whether a code over a node, and each code of its list at its node, is not refused
+abbrev pub covers_at : List Node → ℕ → SendCode → Option Spots → Bool
+covers_at N id code None = false
+covers_at N id code (Some ts) =
+    is_some (run N (Some id) (code_seen code.ops) None (only_room 0 0)) && list_runs N (map code_seen code.subs) ts
+
 -- whether a code over a node has ensured what it appends, from position 0
 abbrev pub covers : List Node → ℕ → SendCode → Bool
-covers N id code = covers_at (spots N (Some id) (code_seen code.ops) (map code_seen code.subs)) where
-  covers_at : Option Spots → Bool
-  covers_at None = false
-  covers_at (Some ts) = is_some (run N (Some id) (code_seen code.ops) None (only_room 0 0)) && list_runs N (map code_seen code.subs) ts
+covers N id code = covers_at N id code (spots N (Some id) (code_seen code.ops) (map code_seen code.subs))

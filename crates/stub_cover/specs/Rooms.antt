@@ -1,5 +1,5 @@
 -- Rooms: how many octets are ensured, for each residue of the position by 8.
-use Rattle.std.specs.Prelude.{ℕ, zero, suc, ◌+◌, ◌-◌, ◌%◌, ◌≤◌, min, max, Bool, true, false, ◌&&◌, Option, Some, None, is_some, option_map, nat_le, nat_eq, if◌then◌else◌}
+use Rattle.std.specs.Prelude.{ℕ, zero, suc, ◌+◌, ◌-◌, ◌%◌, min, max, Bool, true, ◌&&◌, Option, Some, None, is_some, option_map, nat_le, nat_eq, if◌then◌else◌}
 use Rattle.wire_def.specs.Scalars.{gap}
 use Rattle.cast_stub.specs.Parts.{on_some}
 use Rattle.stub_flat.specs.Residues.{Residues}
@@ -56,13 +56,15 @@ have_first (suc k) n R = has n (R k) && have_first k n R
 abbrev pub took : ℕ → Rooms → Option Rooms
 took n R = if have_first 8 n R then Some (λ r. option_map (λ x. x - n) (R ((r + 8 - n % 8) % 8))) else None
 
+-- the rooms behind zeros up to a multiple, from one residue and its room
+abbrev pub padded_one : ℕ → ℕ → Option ℕ → Option Rooms
+padded_one k a None = Some no_rooms
+padded_one k a (Some x) = if nat_le (gap k a) x then Some (only_room ((k + gap k a) % 8) (x - gap k a)) else None
+
 -- the rooms behind zeros up to a multiple, from the first so many residues
 abbrev pub padded_first : ℕ → ℕ → Rooms → Option Rooms
 padded_first zero a R = Some no_rooms
-padded_first (suc k) a R = on_some (padded_one k a (R k)) (λ S. option_map (least S) (padded_first k a R)) where
-  padded_one : ℕ → ℕ → Option ℕ → Option Rooms
-  padded_one k a None = Some no_rooms
-  padded_one k a (Some x) = if nat_le (gap k a) x then Some (only_room ((k + gap k a) % 8) (x - gap k a)) else None
+padded_first (suc k) a R = on_some (padded_one k a (R k)) (λ S. option_map (least S) (padded_first k a R))
 
 -- the rooms behind zeros up to a multiple
 abbrev pub padded : ℕ → Rooms → Option Rooms
