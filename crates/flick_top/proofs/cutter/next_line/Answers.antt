@@ -24,11 +24,11 @@ returns-then-is_end-clause-goes g c = λ k before given h.
     let end : c.in_ok-line.line ≡ End = c.is_end.ensures.end c.if-is_end.true in
     lines-ended k before _ _ c.args.lines.now c.next.new.self given c.in_ok-line.line end h c.in_ok-line.ensures.lines
     (c.next.ensures.knows_end h.knows_end) (c.in_ok-line.ensures.end (ap Ok end))
-    (c.in_ok-line.ensures.within h.fine (λ e. absurd (cc e)) (λ e. absurd (cc e)))
+    (c.in_ok-line.ensures.within h.fine (λ e. absurd (cc e)))
 
 pub returns-clause-goes : goal.returns-clause-goes
 returns-clause-goes g c = λ k before given h.
     let is_line : c.in_ok-line.line ≡ End → ⊥ = c.is_end.ensures.line c.if-is_end.false in
     line-given k before _ _ c.args.lines.now c.next.new.self given c.in_ok-line.line h
     (rw (answered-line c.in_ok-line.line is_line) at c.in_ok-line.ensures.lines) (c.next.ensures.knows_end h.knows_end)
-    c.in_ok-line.ensures.fresh (c.in_ok-line.ensures.within h.fine (λ e. absurd (cc e)) (λ e. absurd (cc e)))
+    c.in_ok-line.ensures.fresh (c.in_ok-line.ensures.within h.fine (λ e. absurd (cc e)))
