@@ -1,6 +1,6 @@
 use Rattle.std.proofs.Common.{sym}
 use Rattle.flick_bridge.specs.Bridged.{Bridging}
-use Rattle.flick_bridge.proofs.Reading.{none_paired, some_paired}
+use Rattle.flick_bridge.proofs.Reading.{some_paired}
 use Rattle.flick_bridge.proofs.ends.BothEndsEnds.pair.Goals as goal
 
 pub returns-in_ok-other : goal.returns-in_ok-other
