@@ -17,10 +17,10 @@ pub returns-in-Ok-from_slice-clause-ok : goal.returns-in-Ok-from_slice-clause-ok
 returns-in-Ok-from_slice-clause-ok c =
     let t : Bridging = record { from = c.self.inside.from.now; to = c.self.inside.to.now } in
     written_told c.args.self.now t c.args.op c.args.head.now (seen c.args.value.now) c.in-Ok-from_slice.message c.octets.result.now
-    c.marshal.new.buf.done c.self.view_is c.in-Ok-from_slice.ensures c.octets.ensures c.in-Ok.ensures.ok
+    c.marshal.new.buf.done c.self.view_is c.in-Ok-from_slice.ensures c.octets.ensures c.in-Ok-marshal.ensures.ok
 
 pub returns-in-Ok-from_slice-clause-short : goal.returns-in-Ok-from_slice-clause-short
 returns-in-Ok-from_slice-clause-short c =
     let t : Bridging = record { from = c.self.inside.from.now; to = c.self.inside.to.now } in
     short_told t c.args.op c.args.head.now (seen c.args.value.now) c.in-Ok-from_slice.message c.octets.result.now
-    c.marshal.new.buf.done c.in-Ok-from_slice.ensures c.octets.ensures c.in-Ok.ensures.ok c.in-Ok.ensures.short
+    c.marshal.new.buf.done c.in-Ok-from_slice.ensures c.octets.ensures c.in-Ok-marshal.ensures.ok c.in-Ok-marshal.ensures.short
