@@ -1,0 +1,44 @@
+-- A message asks one thing at most, or is refused for one reason at most: the law of the ends of a bridge.
+use Rattle.std.proofs.Common.{◌≡◌, ℕ, List, Result, Ok, Err, ap}
+use Rattle.mint.specs.Values.{Val}
+use Rattle.wire_def.specs.declared.head.Head.{Head}
+use Rattle.gateway.specs.Ends.{AtMostOne}
+use Rattle.flick_engine.specs.declared.errors.MessageErr.{MessageErr}
+use Rattle.flick_engine.specs.Received.{Asked}
+use Rattle.flick_engine.proofs.Deciding.{determined}
+use Rattle.flick_bridge.specs.Bridged.{Bridging, asks, declines}
+
+-- what is asked, as a request
+abbrev request : ℕ → Head → Val → Asked
+request op head v = record { op = op; head = head; value = v }
+
+-- what a message is
+abbrev Read : Type 0
+Read = Result Asked MessageErr
+
+-- this is read
+abbrev is_read : Asked → Read
+is_read r = Ok r
+
+-- this is why nothing is read
+abbrev is_refused : MessageErr → Read
+is_refused e = Err e
+
+parts : (op other : ℕ) (head its : Head) (v w : Val) → is_read (request op head v) ≡ is_read (request other its w)
+    → (op ≡ other) × (head ≡ its) × (v ≡ w)
+parts op other head its v w e =
+    let same : request op head v ≡ request other its w = cc e in
+    (ap (λ (r : Asked). r.op) same, ap (λ (r : Asked). r.head) same, ap (λ (r : Asked). r.value) same)
+
+reasons : (x y : MessageErr) → is_refused x ≡ is_refused y → x ≡ y
+reasons x y e = cc e
+
+never : (r : Asked) (x : MessageErr) → is_read r ≡ is_refused x → ⊥
+never r x e = cc e
+
+pub one : AtMostOne asks declines
+one = record {
+  request = λ s o op other head its v w a b. parts op other head its v w (determined s.from.binding o _ _ a b);
+  reason = λ s o x y a b. reasons x y (determined s.from.binding o _ _ a b);
+  apart = λ s o op head v x a b. never (request op head v) x (determined s.from.binding o _ _ a b);
+}
