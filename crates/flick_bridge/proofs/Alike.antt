@@ -70,12 +70,13 @@ abbrev chosen : (ℕ → List ℕ → Option ℕ) → (ℕ → List ℕ → Opti
 chosen own other op i name = if is_number op (own i name) then other i name else None
 
 pair_by_home : (b c : Binding) (op : ℕ) (x : Option Op)
-    → pair_at b c op x ≡ by_home None (chosen (number_of b) (number_of c) op) x
+    → pair_at b c op x ≡ by_home {A = Option ℕ} None (chosen (number_of b) (number_of c) op) x
 pair_by_home b c op None = refl
 pair_by_home b c op (Some o) = refl
 
 chosen_same : (b c d e : Binding) → AreTwins b d → AreTwins c e → (op : ℕ) (x : Option Op)
-    → by_home None (chosen (number_of b) (number_of c) op) x ≡ by_home None (chosen (number_of d) (number_of e) op) x
+    → by_home {A = Option ℕ} None (chosen (number_of b) (number_of c) op) x
+    ≡ by_home {A = Option ℕ} None (chosen (number_of d) (number_of e) op) x
 chosen_same b c d e one two op None = refl
 chosen_same b c d e one two op (Some o) =
     ap (λ (r : Option ℕ). if is_number op r then number_of c o.interface o.name else None) (numbers_same b d one o.interface o.name)
@@ -85,7 +86,7 @@ pairs_same : (b c d e : Binding) → AreTwins b d → AreTwins c e → (op : ℕ
 pairs_same b c d e one two op =
     pair_by_home b c op (slice_get b.ops op)
     ∙ chosen_same b c d e one two op (slice_get b.ops op)
-    ∙ homes_same None (chosen (number_of d) (number_of e) op) (faces_in b) (faces_in d) b.ops d.ops op (ops_alike b d one)
+    ∙ homes_same {A = Option ℕ} None (chosen (number_of d) (number_of e) op) (faces_in b) (faces_in d) b.ops d.ops op (ops_alike b d one)
     ∙ sym (pair_by_home d e op (slice_get d.ops op))
 
 -- ---- heads

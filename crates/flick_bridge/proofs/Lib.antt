@@ -6,5 +6,9 @@ pub mod Plainly
 mod Bodies
 -- * The message that a bridge makes of a request asks the same, and a line has one answer
 pub mod Passing
+-- * What an end of a bridge reads, pairs and writes, by what its engines answer
+pub mod Reading
+-- * What a bridge answers, by what its gateway passes on
+pub mod Answering
 -- Lines are bridged the same between bindings of one unit over the same back ends
 pub mod Alike

@@ -1,8 +1,8 @@
 -- The message that a bridge makes of a request asks the same, and a line has one answer.
-use Rattle.std.proofs.Common.{◌≡◌, ◌⊎◌, inl, inr, get_or, ◌≤◌, ◌<◌, ℕ, List, length, drop, Bool, true, false, Option, Some, None, Result, Ok, Err, refl, sym, ap, ◌∙◌, subst, arith}
-use Rattle.std.specs.Prelude.{codes, slice_get, nat_le, if◌then◌else◌}
+use Rattle.std.proofs.Common.{◌≡◌, ◌≤◌, ◌<◌, ℕ, List, length, drop, Bool, true, false, Option, Some, None, Result, Ok, Err, refl, sym, ap, ◌∙◌, subst, arith}
+use Rattle.std.specs.Prelude.{codes, nat_le, if◌then◌else◌}
 use Rattle.std.proofs.lemmas.Bool.{leb-true, leb-false}
-use Rattle.std.proofs.lemmas.Option.{slice_get_cases}
+use Rattle.std.proofs.lemmas.Option.{slice_get_within}
 use Rattle.kit_base.specs.Limits.{longest_message}
 use Rattle.hex.specs.Hex.{decode_of, encode_lower}
 use Rattle.hex.specs.declared.error.FromHexError.{FromHexError}
@@ -16,7 +16,6 @@ use Rattle.wire_def.specs.Send.{send}
 use Rattle.wire_def.specs.Spells.{IsSpelling}
 use Rattle.wire_def.proofs.Encodings.{sent_spells}
 use Rattle.head_kit.proofs.Exact.{all_octets}
-use Rattle.pres.specs.declared.ops.Op.{Op}
 use Rattle.pres.specs.Bindings.{Binding}
 use Rattle.pres_pairs.specs.Pairs.{ArePaired, pair_of}
 use Rattle.pres_pairs.proofs.Pairing.{pairs_have_one_type}
@@ -53,15 +52,8 @@ are_paired s stands op head other its e =
     pairs_have_one_type s.from.binding s.to.binding op other stands.reads stands.writes stands.units
     (found s.to.binding (number_in s.from.binding.back head) (pair_of s.from.binding s.to.binding op) other its e)
 
-below : (ops : List Op) (n : ℕ) (o : Op) → slice_get ops n ≡ Some o → n < length ops
-below ops n o e = go (slice_get_cases ops n).1 where
-  go : ((x : Op) × (n < length ops) × (slice_get ops n ≡ Some x) × (get_or ops n x ≡ x)) ⊎ ((length ops ≤ n) × (slice_get ops n ≡ None))
-      → n < length ops
-  go (inl (x, less, some, same)) = less
-  go (inr (past, none)) = absurd (cc (sym e ∙ none))
-
 pub other_below : (s : Bridging) (op other : ℕ) → ArePaired s.from.binding s.to.binding op other → other < length s.to.binding.ops
-other_below s op other p = below s.to.binding.ops other p.pair p.there
+other_below s op other p = slice_get_within s.to.binding.ops other p.pair p.there
 
 -- the value of a request is one of its operation
 asked_typed : (s : Bridging) (o : List ℕ) (op : ℕ) (head : Head) (v : Val) → asks s o op head v

@@ -2,6 +2,7 @@
 
 ghost use Rattle.std.specs.Prelude.{◌≡◌, ℕ, List, IfOk, Ok};
 ghost use Rattle.hex.specs.Hex.{decode_of};
+ghost use Rattle.pres.specs.Bindings.{IsBinding};
 ghost use Rattle.flick_bridge.specs.Bridged.{IsBridging, IsBridged, IsOfMessage};
 
 use crate::ends::BothEnds;
@@ -43,8 +44,8 @@ impl Bridge {
         requires { from.binding.unit ≡ to.binding.unit }
         ensures { result ≡ record { from = from; to = to } }
     {
-        let _ops = from.bound().ops();
-        let _other_ops = to.bound().ops();
+        it_is_bound(&from);
+        it_is_bound(&to);
         Bridge { from, to }
     }
 
@@ -73,14 +74,22 @@ impl Bridge {
         }
     }
 
+    /// The two engines, as the ends of a gateway.
+    fn ends(&self) -> BothEnds<'_>
+        ensures value { result ≡ self.now }
+        ensures stands { IsBridging self.now }
+    {
+        BothEnds::new(&self.from, &self.to)
+    }
+
     /// The answer to a message.
     fn of_message(&self, alloc: Global, message: &[u8]) -> Result<Octets, NoMemory>
         ensures { IfOk result (λ o. IsOfMessage self.now (Ok message.now) o) }
     {
-        let gateway = Gateway::new(BothEnds::new(&self.from, &self.to));
+        let gateway = Gateway::new(self.ends());
         match gateway.pass(alloc, message) {
             Ok(passed) => digits(alloc, passed.as_slice()),
-            Err(PassErr::Read(_)) => record_of(alloc, &self.from, message),
+            Err(PassErr::Read(_)) => record_of(alloc, self.engine(), message),
             Err(PassErr::Pair) => copied(alloc, b"! pair"),
             Err(PassErr::Long) => copied(alloc, b"! long"),
             Err(PassErr::NoMemory) => Err(NoMemory),
@@ -93,4 +102,11 @@ impl Bridge {
     {
         self.from.bound().mint().types_are_sound();
     }
+}
+
+/// What an engine has is a binding. It does nothing.
+fn it_is_bound(engine: &Engine)
+    ensures { IsBinding engine.now.binding }
+{
+    let _ops = engine.bound().ops();
 }

@@ -73,7 +73,8 @@ impl<'a> Ends for BothEnds<'a> {
     }
 
     fn pair(&self, op: u32, head: &Head) -> Option<(u32, Head)> {
-        let (from, to) = (self.from.bound(), self.to.bound());
+        let from = self.from.bound();
+        let to = self.to.bound();
         let other = pair_of(from, to, op)?;
         Some((other, head_at(to, other, number_in(from.back(), head))))
     }

@@ -1,5 +1,7 @@
 -- What a file comes to with messages of two formats: engines of one unit, or what is said instead.
-use Rattle.std.proofs.Common.{◌≡◌, ℕ, List, [], Option, Some, None, Result, Ok, Err, IfOk, refl, sym, ap, ◌∙◌, subst}
+use Rattle.std.proofs.Common.{◌≡◌, ◌+◌, ℕ, List, [], Option, Some, None, Result, Ok, Err, IfOk, refl, sym, ap, ◌∙◌, subst}
+use Rattle.kit_base.specs.Limits.{longest_file}
+use Rattle.kit_base.specs.Memory.{HasFile, LacksFile}
 use Rattle.idl_lex.specs.declared.kinds.Front.{Front}
 use Rattle.aoi.specs.Plain.{PlainUnit}
 use Rattle.pres.specs.declared.errors.BindErr.{BindErr}
@@ -14,6 +16,7 @@ use Rattle.flick_top.specs.declared.file.NoBridge.{NoBridge}
 use Rattle.flick_top.specs.declared.job.Job.TheVariants as jobs
 use Rattle.flick_top.specs.declared.prepared.Prepared.{Prepared}
 use Rattle.flick_top.specs.declared.saying.Saying.{Saying}
+use Rattle.flick_top.specs.declared.saying.Saying.TheVariants.{NoFile}
 use Rattle.flick_top.specs.Coming.{Files, IsMadeIn, IsMadeOf, IsSecond, bridging_task, Bridges, BridgesFile, bridge_of, IsBridge, IsBridgeOf}
 use Rattle.flick_top.specs.File.{Reported, FileSays, BindSays, BoundSays, IsOf, codes_in}
 use Rattle.flick_top.specs.Fronts.{Read}
@@ -76,10 +79,18 @@ bridge-said n to content first saying made is one same =
 
 -- the prefix that a shelf gave makes the bridge of its file
 pub bridge-decides : (n : Named) (to : Wire) (shelf : Option Files) (files : Files) (path part : List ℕ) (made : Result Bridging NoBridge)
-    → ((read : Read) → FileSays n.front (Some part) read → FileSays n.front (files path) read)
-    → IsBridgeOf n to (Some part) made → IsBridgeOf n to (files path) made
-bridge-decides n to shelf files path part made decides (reported, (read, says, bound), is) =
-    (reported, (read, decides read says, bound), is)
+    → HasFile shelf path (1 + longest_file) part → shelf ≡ Some files → IsBridgeOf n to (Some part) made
+    → IsBridgeOf n to (files path) made
+bridge-decides n to shelf files path part made has known (reported, (read, says, bound), is) =
+    (reported, (read, reported-decides n.front shelf files path part read has known says, bound), is)
+
+-- what is said where there is no file
+pub bridge-absent : (n : Named) (to : Wire) (shelf : Option Files) (files : Files) (path : List ℕ) → LacksFile shelf path
+    → shelf ≡ Some files → IsBridgeOf n to (files path) (Err (record { saying = NoFile; engine = None }))
+bridge-absent n to shelf files path lacks known =
+    let none : files path ≡ None = subst (λ (o : Option Files). LacksFile o path) known lacks in
+    let says : FileSays n.front (files path) (Err NoFile) =
+    subst (λ (c : Option (List ℕ)). FileSays n.front c (Err NoFile)) (sym none) refl in (Err NoFile, (Err NoFile, says, refl), refl)
 
 -- ---- tasks
 
@@ -96,17 +107,17 @@ made_task : (e : Coded) (second : Reported) → prepared_of (bridge_of e second)
 made_task e (Ok x) = refl
 made_task e (Err saying) = refl
 
-bridged_task : (to : Wire) (codes : List Stub) (reported : Reported) (made : Result Bridging NoBridge) (p : Prepared)
+bridged_task : (to : Wire) (reported : Reported) (made : Result Bridging NoBridge) (p : Prepared)
     → IsBridge to reported made → task_in p [] ≡ prepared_of made
     → (codes_of (engine_of p) ≡ codes_in reported) × Bridges to reported (task_in p [])
-bridged_task to codes (Ok e) made p (second, is, same) task =
+bridged_task to (Ok e) made p (second, is, same) task =
     let known = task ∙ ap prepared_of same ∙ made_task e second in
     (codes_known e second p known, (second, is, known))
-bridged_task to codes (Err saying) made p is task =
+bridged_task to (Err saying) made p is task =
     let known = task ∙ ap prepared_of is in (ap (λ (t : Task). codes_of t.engine) known, known)
 
 pub bridge-prepared : (n : Named) (to : Wire) (content : Option (List ℕ)) (made : Result Bridging NoBridge) (p : Prepared)
     → IsBridgeOf n to content made → task_in p [] ≡ prepared_of made → BridgesFile (codes_of (engine_of p)) n to content (task_in p [])
 bridge-prepared n to content made p (reported, one, is) task =
-    let (codes, bridges) = bridged_task to [] reported made p is task in
+    let (codes, bridges) = bridged_task to reported made p is task in
     (reported, subst (λ (s : List Stub). IsMadeOf s n content reported) (sym codes) one, bridges)

@@ -65,8 +65,7 @@ pub fn prepare<F: Shelf>(
             }
         }
         Command::Bridge(named, to) => {
-            let path = word_at(words, named.file);
-            bridging(alloc, &named, to, path, shelf)
+            bridging(alloc, &named, to, word_at(words, named.file), shelf)
         }
     }
 }

@@ -119,8 +119,11 @@ fn bridging(word: &[u8], front: &[u8], from: &[u8], to: &[u8], more: &[Octets]) 
         (backs.wire_of to.now) more.now }
 {
     match more {
-        [_] if word == b"bridge".as_slice() => {
-            bridge_between(front_of(front), wire_of(from), wire_of(to))
+        [_] => {
+            if word == b"bridge".as_slice() {
+                return bridge_between(front_of(front), wire_of(from), wire_of(to));
+            }
+            None
         }
         _ => None,
     }

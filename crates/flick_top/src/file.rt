@@ -102,7 +102,7 @@ fn bridge_of(
     to: Wire,
     content: &[u8],
 ) -> Result<Result<Bridge, NoBridge>, NoMemory>
-    ensures bridges { IfOk result (λ made. IsBridgeOf named.now to (Some content.now) made) }
+    ensures { IfOk result (λ made. IsBridgeOf named.now to (Some content.now) made) }
 {
     match engine_of(alloc, named.front, named.wire, content)? {
         Ok(from) => {
@@ -123,7 +123,7 @@ fn engine_of(
     wire: Wire,
     content: &[u8],
 ) -> Result<Result<Engine, Saying>, NoMemory>
-    ensures says { IfOk result (λ reported.
+    ensures { IfOk result (λ reported.
         IsMadeIn (codes_in reported) front wire (Some content.now) reported) }
 {
     let read = read_content(alloc, front, content)?;
