@@ -29,7 +29,7 @@ use Rattle.flick_engine.proofs.HeadsOfBacks.{long_lead}
 use Rattle.flick_lines.specs.Marshalled.{digits_of}
 use Rattle.flick_lines.specs.Unmarshalled.{message_refusal}
 use Rattle.gateway.specs.Passed.{ForAsked, ForPaired}
-use Rattle.flick_bridge.specs.Heads.{number_in, head_at}
+use Rattle.flick_bridge.specs.Heads.{number_in}
 use Rattle.flick_bridge.specs.Bridged.{Bridging, IsBridging, asks, declines, with_head, paired, told, head_octets, AsksTheSame, IsPassed, IsOfAsked, IsOfMessage, IsBridged}
 use Rattle.flick_bridge.specs.Laws.{IsBridgedOnce}
 use Rattle.flick_bridge.proofs.Bodies.{follows}

@@ -1,5 +1,5 @@
 -- What an end of a bridge reads, pairs and writes, by what its engines answer.
-use Rattle.std.proofs.Common.{◌≡◌, ◌<◌, ℕ, List, length, Option, Some, None, Result, Ok, Err, sym, ap, ◌∙◌, subst}
+use Rattle.std.proofs.Common.{◌≡◌, ◌<◌, ◌≤◌, ℕ, List, length, Option, Some, None, Ok, Err, sym, ap, ◌∙◌, subst}
 use Rattle.kit_base.specs.Limits.{longest_message}
 use Rattle.mint.specs.Typed.{IsWellTyped}
 use Rattle.mint.specs.Values.{Val, seen}
@@ -87,6 +87,11 @@ written_typed s t same stands op head v h =
 pub written_told : (s t : Bridging) (op : ℕ) (head : Head) (v : Val) (m octets done : List ℕ) → t ≡ s → m ≡ octets → octets ≡ done
     → done ≡ told t op head v → m ≡ told s op head v
 written_told s t op head v m octets done same is of made = is ∙ of ∙ made ∙ ap (λ (x : Bridging). told x op head v) same
+
+pub short_told : (t : Bridging) (op : ℕ) (head : Head) (v : Val) (m octets done : List ℕ) → m ≡ octets → octets ≡ done
+    → done ≡ told t op head v → length (told t op head v) ≤ longest_message → length m ≤ longest_message
+short_told t op head v m octets done is of made short =
+    subst (λ (o : List ℕ). length o ≤ longest_message) (sym (is ∙ of ∙ made)) short
 
 pub long_told : (s t : Bridging) (op : ℕ) (head : Head) (v : Val) → t ≡ s → longest_message < length (told t op head v)
     → longest_message < length (told s op head v)

@@ -1,12 +1,12 @@
 -- A message asks one thing at most, or is refused for one reason at most: the law of the ends of a bridge.
-use Rattle.std.proofs.Common.{◌≡◌, ℕ, List, Result, Ok, Err, ap, subst}
+use Rattle.std.proofs.Common.{◌≡◌, ℕ, Result, Ok, Err, ap, subst}
 use Rattle.mint.specs.Values.{Val}
 use Rattle.wire_def.specs.declared.head.Head.{Head}
 use Rattle.gateway.specs.Ends.{AtMostOne}
 use Rattle.flick_engine.specs.declared.errors.MessageErr.{MessageErr}
 use Rattle.flick_engine.specs.Received.{Asked}
 use Rattle.flick_engine.proofs.Deciding.{determined}
-use Rattle.flick_bridge.specs.Bridged.{Bridging, asks, declines}
+use Rattle.flick_bridge.specs.Bridged.{asks, declines}
 
 -- what is asked, as a request
 abbrev request : ℕ → Head → Val → Asked

@@ -1,7 +1,6 @@
 //! A bridge.
 
 ghost use Rattle.std.specs.Prelude.{◌≡◌, ℕ, List, IfOk, Ok};
-ghost use Rattle.hex.specs.Hex.{decode_of};
 ghost use Rattle.pres.specs.Bindings.{IsBinding};
 ghost use Rattle.flick_bridge.specs.Bridged.{IsBridging, IsBridged, IsOfMessage};
 

@@ -1,6 +1,5 @@
 use Rattle.std.proofs.Common.{rules, ap, ◌∙◌}
 use Rattle.hex.proofs.HexLemmas.{decode_of-encode_lower}
-use Rattle.pres.specs.Bindings.{Binding}
 use Rattle.stub_codes.specs.Stubs.{Coded}
 use Rattle.flick_bridge.proofs.Answering.{long_passed, passed_answer, read_answer, unpaired_answer}
 use Rattle.flick_bridge.proofs.bridge.Bridge.of_message.Goals as goal
