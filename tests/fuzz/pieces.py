@@ -75,12 +75,10 @@ def fed(words, stream, sizes):
     pieces, in_packets = list(pieces_of(stream, sizes)), len(stream) <= LONGEST_READ
     end, pipe = os.pipe2(os.O_CLOEXEC | (os.O_DIRECT if in_packets else 0))
     fcntl.fcntl(pipe, fcntl.F_SETPIPE_SZ, ROOM)
-    writer = threading.Thread(target=given, args=(pipe, pieces))
-    writer.start()
-    if in_packets and len(pieces) <= HELD:
-        writer.join()
+    writer = None if in_packets and len(pieces) <= HELD else threading.Thread(target=given, args=(pipe, pieces))
+    writer.start() if writer else given(pipe, pieces)
     with subprocess.Popen(words, stdin=end, stdout=subprocess.PIPE, stderr=subprocess.DEVNULL, close_fds=False) as run:
         os.close(end)
         told, _ = run.communicate(timeout=SECONDS)
-    writer.join()
+    writer.join() if writer else None
     return told, run.returncode
