@@ -69,6 +69,8 @@ def no_constant(_):
     raise NoTree
 
 
+READER = json.JSONDecoder(parse_int=whole, parse_float=fraction, parse_constant=no_constant)
+WRITER = json.JSONEncoder(ensure_ascii=False, separators=(",", ":"), sort_keys=True)
 STRING = re.compile(r'"[^"\\]*(?:\\.[^"\\]*)*"')
 BRACKET = re.compile(r"[][{}]")
 HALF = re.compile("[\ud800-\udfff]")
@@ -85,7 +87,7 @@ def is_readable(text):
 def tree_of(line):
     """The tree of a line: objects are dicts, in which the last member of a name counts."""
     try:
-        tree = json.loads(text := line.decode(), parse_int=whole, parse_float=fraction, parse_constant=no_constant)
+        tree = READER.decode(text := line.decode())
     except (ValueError, RecursionError):
         raise NoTree from None
     if not is_readable(text):
@@ -95,7 +97,7 @@ def tree_of(line):
 
 def text_of(tree):
     """JSON without blanks, members in the order of their names' characters, which is that of their octets."""
-    return json.dumps(tree, ensure_ascii=False, separators=(",", ":"), sort_keys=True)
+    return WRITER.encode(tree)
 
 
 def word(n):
