@@ -29,7 +29,7 @@ from samples import call_lines, request_lines  # noqa: E402
 from serving_samples import given_lines, refused_lines, replied_lines, reply_lines, served_lines  # noqa: E402
 
 FRONTS = ("onc", "corba", "mig")
-COMMANDS = ("marshal", "unmarshal", "reply", "unreply", "pipe", "unpipe", "serve", "show", "stubs", "count", "make")
+COMMANDS = ("marshal", "unmarshal", "reply", "unreply", "pipe", "unpipe", "serve", "bridge", "show", "stubs", "count", "make")
 SEED = 1
 LINES = 24
 MESSAGES = 12
@@ -140,6 +140,8 @@ def pair_runs(room, front, back):
         yield run_of(f"unpipe {front} {back}{name}", room.path, ["unpipe", front, back, file], octets)
     for name, answers in (("replies", given), ("no replies", b""), ("a long reply", long), ("wrong replies", refused)):
         yield run_of(f"serve {front} {back} with {name}", room.path, ["serve", front, back, file, room.lay(answers)], joined(served))
+    to = [*BACKS, *BACKS][[*BACKS].index(back) + 1]
+    yield run_of(f"bridge {front} {back} {to}", room.path, ["bridge", front, back, to, file], joined(calls))
     yield run_of(f"stubs {front} {back}", room.path, ["stubs", front, back, file])
     yield run_of(f"make {front} {back}", room.path, ["make", front, back, file, str(SEED), str(MESSAGES)])
 
@@ -202,7 +204,7 @@ def table_runs(room, tables):
             lines = [line.encode() for _, line, _ in turns if len(line) <= LONGEST]
             parts = None if given is None else json.loads(given)
             replies = [] if given is None else ["absent"] if parts is None else [room.lay(replay.spelled(parts).encode())]
-            yield run_of(f"{table} by {command} over {back}", room.path, [command, front, back, file, *replies], joined(lines))
+            yield run_of(f"{table} by {command} over {back}", room.path, [command, front, *back.split(), file, *replies], joined(lines))
 
 
 def text_runs(room, tables):

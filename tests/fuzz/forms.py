@@ -217,19 +217,22 @@ def reply_record_of(back, answer):
 def wrong_answer(back, command, line, answer):
     """Of an answer to a line."""
     if answer == "! long":
-        return None if command in ("marshal", "reply") or len(line) > LONGEST_LINE else "another answer to a short line"
+        return None if command in ("marshal", "reply", "bridge") or len(line) > LONGEST_LINE else "another answer to a short line"
     if command == "marshal":
         return None if NO_CALL[back].fullmatch(answer) or is_message(CALL, back, answer) else "a call, or one of the lines by which `marshal` refuses"
     if command == "reply":
         return None if NO_REPLY.fullmatch(answer) or is_message(REPLY, back, answer) else "a reply, or one of the lines by which `reply` refuses"
     if command == "unreply":
         return wrong_unreplied(back, line, answer)
+    back, *others = back.split()
     if not HEX.fullmatch(line):
         return None if answer == "! hex" else "`! hex`"
     if command == "serve":
         return None if answer == "-" or is_message(SERVED, back, answer) and is_of(back, bytes.fromhex(line.decode()), bytes.fromhex(answer)) else "`-`, or a reply to the message"
     if form := NO_RECORD[back].fullmatch(answer):
         return wrong_fault(back, bytes.fromhex(line.decode()), form)
+    if command == "bridge":
+        return None if answer == "! pair" or is_message(CALL, others[0], answer) else "`! pair`, a call, or one of the lines by which `unmarshal` refuses"
     return None if record_of(back, answer) else "a record, or one of the lines by which `unmarshal` refuses"
 
 

@@ -1,4 +1,5 @@
 """Raw streams for `unpipe`: frames of messages, edited, and the pieces in which they come."""
+import fcntl
 import os
 import subprocess
 import threading
@@ -6,6 +7,8 @@ import threading
 from framing import framed
 
 SECONDS = 60
+# How much a run reads at once; and of a pipe of packets its octets, and how many pieces of what is read at once it holds.
+LONGEST_READ, ROOM, HELD = 65_536, 2 ** 20, 240
 # What is put into a stream or in an octet's place.
 OCTETS = (0, 0, 0x80, 0x40, 0xff, 1, 24)
 
@@ -43,14 +46,20 @@ def stream_of(rng, back, messages):
     return stream, [rng.choice((1, 2, 3, 4, 7, 40, 1_000, 70_000)) for _ in range(64)]
 
 
-def given(pipe, stream, sizes):
-    """Writes a stream piece by piece, and closes the pipe; the reader may have ended before."""
+def pieces_of(stream, sizes):
+    """A stream cut into pieces of such sizes."""
     at = 0
+    while at < len(stream):
+        size = sizes[at % len(sizes)]
+        yield stream[at:at + size]
+        at += size
+
+
+def given(pipe, pieces):
+    """Writes piece by piece, and closes the pipe; the reader may have ended before."""
     try:
-        while at < len(stream):
-            size = sizes[at % len(sizes)]
-            os.write(pipe, stream[at:at + size])
-            at += size
+        for piece in pieces:
+            os.write(pipe, piece)
     except BrokenPipeError:
         pass
     finally:
@@ -58,12 +67,18 @@ def given(pipe, stream, sizes):
 
 
 def fed(words, stream, sizes):
-    """What a run writes of an input that comes in pieces of such sizes, and its status."""
-    end, pipe = os.pipe()
-    with subprocess.Popen(words, stdin=end, stdout=subprocess.PIPE, stderr=subprocess.DEVNULL) as run:
+    """What a run writes of an input that comes in pieces of such sizes, and its status.
+
+    A read takes one packet of a pipe of packets, so that pieces are not joined where they are written before the run reads.
+    Those of a longer input may be.
+    """
+    pieces, in_packets = list(pieces_of(stream, sizes)), len(stream) <= LONGEST_READ
+    end, pipe = os.pipe2(os.O_CLOEXEC | (os.O_DIRECT if in_packets else 0))
+    fcntl.fcntl(pipe, fcntl.F_SETPIPE_SZ, ROOM)
+    writer = None if in_packets and len(pieces) <= HELD else threading.Thread(target=given, args=(pipe, pieces))
+    writer.start() if writer else given(pipe, pieces)
+    with subprocess.Popen(words, stdin=end, stdout=subprocess.PIPE, stderr=subprocess.DEVNULL, close_fds=False) as run:
         os.close(end)
-        writer = threading.Thread(target=given, args=(pipe, stream, sizes))
-        writer.start()
         told, _ = run.communicate(timeout=SECONDS)
-        writer.join()
+    writer.join() if writer else None
     return told, run.returncode

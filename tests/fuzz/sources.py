@@ -85,7 +85,7 @@ def texts(front, back):
         yield f"generated file {number}", text, []
 
 
-@lru_cache(maxsize=1000)
+@lru_cache(maxsize=4000)
 def interfaces_in(front, text):
     """The interfaces of a text, where the model reads it: in an ONC file it looks for no faults, and others it reads slowly."""
     try:
@@ -117,7 +117,7 @@ def sources(front, back):
     return list({text: Source(name, text, lines) for name, text, lines in texts(front, back) if len(text) <= LONGEST_SEED}.values())
 
 
-@lru_cache(maxsize=1000)
+@lru_cache(maxsize=4000)
 def interfaces_of(front, source_text):
     """The interfaces of a source, where neither requests over them nor replies are long."""
     interfaces, known = interfaces_in(front, source_text), {}

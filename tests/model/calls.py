@@ -69,6 +69,8 @@ def no_constant(_):
     raise NoTree
 
 
+READER = json.JSONDecoder(parse_int=whole, parse_float=fraction, parse_constant=no_constant)
+WRITER = json.JSONEncoder(ensure_ascii=False, separators=(",", ":"), sort_keys=True)
 STRING = re.compile(r'"[^"\\]*(?:\\.[^"\\]*)*"')
 BRACKET = re.compile(r"[][{}]")
 HALF = re.compile("[\ud800-\udfff]")
@@ -85,7 +87,7 @@ def is_readable(text):
 def tree_of(line):
     """The tree of a line: objects are dicts, in which the last member of a name counts."""
     try:
-        tree = json.loads(text := line.decode(), parse_int=whole, parse_float=fraction, parse_constant=no_constant)
+        tree = READER.decode(text := line.decode())
     except (ValueError, RecursionError):
         raise NoTree from None
     if not is_readable(text):
@@ -95,7 +97,7 @@ def tree_of(line):
 
 def text_of(tree):
     """JSON without blanks, members in the order of their names' characters, which is that of their octets."""
-    return json.dumps(tree, ensure_ascii=False, separators=(",", ":"), sort_keys=True)
+    return WRITER.encode(tree)
 
 
 def word(n):
@@ -197,33 +199,46 @@ def is_hex(text):
     return len(text) % 2 == 0 and not text.translate(None, b"0123456789abcdefABCDEF")
 
 
-def unmarshal(back, interfaces, line):
-    """The answer to a line of hexadecimal digits."""
+class Refused(Exception):
+    """A line that is no message of a request; the line that says so."""
+
+
+def request_in(back, interfaces, line):
+    """The request of a line of hexadecimal digits: an interface, its operation, the numbers of the head, and the values."""
     if len(line) > LONGEST_LINE:
-        return "! long"
+        raise Refused("! long")
     if not is_hex(line):
-        return "! hex"
+        raise Refused("! hex")
     message = bytes.fromhex(line.decode())
     try:
         numbers, is_called, is_named, reader = back.head(message)
     except HeadFault as fault:
-        return f"! head {fault}"
+        raise Refused(f"! head {fault}") from None
     except Stop as stop:
-        return f"! head {stop.kind.removesuffix('_')}"
+        raise Refused(f"! head {stop.kind.removesuffix('_')}") from None
     called = [i for i in interfaces if is_called(i)]
     if not called:
-        return "! interface"
+        raise Refused("! interface")
     operations = [op for op in back.operations(called[0]) if is_named(called[0], op)]
     if not operations:
-        return "! operation"
-    name, _, types = operations[0]
+        raise Refused("! operation")
     try:
-        args = [ty.tree(back.read(reader, ty)) for ty in types]
+        values = [back.read(reader, ty) for ty in operations[0][2]]
     except Fault as fault:
-        return f"! body {fault}"
+        raise Refused(f"! body {fault}") from None
     if reader.at < len(message):
-        return f"! trailing {reader.at}"
-    return text_of({"op": f"{called[0].name}.{name}", "args": args, **numbers})
+        raise Refused(f"! trailing {reader.at}")
+    return called[0], operations[0], numbers, values
+
+
+def unmarshal(back, interfaces, line):
+    """The answer to a line of hexadecimal digits."""
+    try:
+        interface, (name, _, types), numbers, values = request_in(back, interfaces, line)
+    except Refused as refused:
+        return str(refused)
+    args = [ty.tree(value) for ty, value in zip(types, values)]
+    return text_of({"op": f"{interface.name}.{name}", "args": args, **numbers})
 
 
 COMMANDS = {"marshal": marshal, "unmarshal": unmarshal}

@@ -6,6 +6,7 @@ operation lists.
 """
 import calls
 import mach
+from bridges import bridge
 from calls import LONGEST_LINE, LONGEST_MESSAGE, HeadFault, NoTree, Onc, auth, is_hex, lines_of, text_of, tree_of, word
 from cdr import Cdr, Writing
 from giop import REPLY, SYSTEM, USER, Reading, Stop, message, read_reply, refusal, reply_fields, sequence
@@ -252,7 +253,9 @@ COMMANDS = {"reply": reply, "unreply": unreply}
 
 
 def answer(command, back, interfaces, line):
-    """What a command over a back end answers to a line."""
+    """What a command over a back end answers to a line; `bridge` is over two, with a blank between them."""
+    if command == "bridge":
+        return bridge(back, interfaces, line)
     commands, backs = (COMMANDS, BACKS) if command in COMMANDS else (calls.COMMANDS, calls.BACKS)
     return commands[command](backs[back], interfaces, line)
 

@@ -21,6 +21,7 @@ An entry has the meaning, an example, and what may help. `tests/print_docs` prin
 SAID = {"! long": "The line is above its limit and was not read, or its message would be above the limit.", "! json": "The line is not JSON.", "! hex": "",
         "? syntax": "The definition that begins on line LINE has no tree.",
         "? replies": "Line LINE, from 1 over all, is no reply record with a message, or its operation has one already. A head number and `refused` are not taken.",
+        "! pair": "BACK2 has no operation of the interface and name that the message calls.",
         "! frame Cut": "The stream ends within a message."}
 BESIDES = {
     "? lex Directive": "`./bring-in` runs `cpp` over the file.",
@@ -215,8 +216,8 @@ def page():
     entries += [(f"! head {word.rstrip('_')}", "", doc, refusals(*HEADS.get(word, []))) for word, doc in variants("head").items()]
     entries += [("! interface", "", message["NoInterface"], refusals("INTERFACE")), ("! operation", "", message["NoOperation"], refusals("OPERATION"))]
     entries += [(f"! body {word}", "AT", doc, page.of_word("body_cause", word)) for word, doc in variants("body").items()]
-    entries += [("! trailing", "AT", message["Trailing"], refusals("TRAILING"))]
-    group(out, page, "A message is refused (`unmarshal`, `unreply`, `serve`)", entries, [
+    entries += [("! trailing", "AT", message["Trailing"], refusals("TRAILING")), ("! pair", "", SAID["! pair"], refusals("PAIR"))]
+    group(out, page, "A message is refused (`unmarshal`, `unreply`, `serve`, `bridge`)", entries, [
         f"{whole(page.causes['refusals', 'HEAD_OTHER']['repair'])} It says over which BACK a fault comes, and shows faults of bodies."])
     entries = [(f"! frame {word}", "", doc, page.of_word("frame_cause", word)) for word, doc in variants("frame").items()]
     entries += [("! frame Cut", "", SAID["! frame Cut"], page.of_word("frame_cause", "Cut"))]

@@ -134,4 +134,4 @@ fn main(rt: HostRuntime) -> Result<()> {
 }
 
 const USAGE: &str =
-    "usage: bench_stubs make|lower|inline|classify|hoist fields|lists|deep|bounded|pairs|arms SIZE, prepare|receive|walk ints|structs|claim SIZE, or make|send|read ints|opaque|text COUNT";
+    "usage: bench_stubs make|lower|inline|classify|hoist fields|lists|deep|bounded|pairs|arms SIZE, prepare|receive|walk ints|structs|twenty|claim SIZE, or make|send|read ints|opaque|text COUNT";

@@ -1,8 +1,16 @@
 //! Messages read by stub code and by the plain walk, so that what a number costs can be counted.
 
+ghost use Rattle.std.specs.Prelude.{◌<◌, length, IfOk};
+ghost use Rattle.mint.specs.Types.{type_at};
+ghost use Rattle.wire_def.specs.Places.{IsPlace};
+ghost use Rattle.wire_def.specs.declared.encoding.Encoding.TheVariants.{Xdr};
+ghost use Rattle.cast_stub.specs.Got.{IsSoundCode};
+
 use anyhow::{Result, bail};
-use kit_base::Octets;
+use cast_stub::RecvCode;
+use chunker::{Phase, chunk_recv};
 use kit_base::limits::LONGEST_MESSAGE;
+use kit_base::{NoMemory, Octets};
 use mint::errors::MintErr;
 use mint::kind::{Count, Kind};
 use mint::node::{Node, NodeIds};
@@ -42,6 +50,8 @@ pub enum Content {
     Ints,
     /// A list of structs of four `int`, of so many `int`.
     Structs,
+    /// A struct of twenty `int`.
+    Twenty,
     /// So many octets, and before them the greatest count, as if a row of `int` came.
     Claim,
 }
@@ -51,6 +61,7 @@ pub fn content_of(word: &str) -> Option<Content> {
     match word {
         "ints" => Some(Content::Ints),
         "structs" => Some(Content::Structs),
+        "twenty" => Some(Content::Twenty),
         "claim" => Some(Content::Claim),
         _ => None,
     }
@@ -59,31 +70,56 @@ pub fn content_of(word: &str) -> Option<Content> {
 /// The table of what a message holds, and its node.
 fn table_of(alloc: Global, content: Content) -> Result<(Mint, NodeId), MintErr> {
     let mut table = Mint::new(alloc);
-    if content != Content::Structs {
-        let row = table.add(Node::Row(Kind::I32, Count::Any))?;
-        return Ok((table, row));
+    match content {
+        Content::Structs => {
+            let four = add_struct(alloc, &mut table, 4)?;
+            let list = table.add(Node::Items(four, Count::Any))?;
+            Ok((table, list))
+        }
+        Content::Twenty => {
+            let twenty = add_struct(alloc, &mut table, 20)?;
+            Ok((table, twenty))
+        }
+        Content::Ints | Content::Claim => {
+            let row = table.add(Node::Row(Kind::I32, Count::Any))?;
+            Ok((table, row))
+        }
     }
+}
+
+/// The node of a struct of so many `int`.
+fn add_struct(alloc: Global, table: &mut Mint, count: u32) -> Result<NodeId, MintErr> {
     let number = table.add(Node::Num(Kind::I32))?;
     let mut fields = NodeIds::new(alloc);
-    for _ in 0..4 {
+    for _ in 0..count {
         fields.push(number)?;
     }
-    let four = table.add(Node::Group(fields))?;
-    let list = table.add(Node::Items(four, Count::Any))?;
-    Ok((table, list))
+    table.add(Node::Group(fields))
+}
+
+/// The code that receives a node, with one test and one take of what stands together.
+fn chunked(alloc: Global, table: &Mint, id: NodeId) -> Result<RecvCode, NoMemory>
+    requires { id < length table.now }
+    ensures { IfOk result (λ code. IsSoundCode Xdr (type_at table.now id) (IsPlace Xdr) code) }
+{
+    let flat = inlined(alloc, Encoding::Xdr, table, id)?;
+    chunk_recv(alloc, &flat, Phase { m: 4, r: 0 })
 }
 
 /// A message of so many numbers, or of so many octets.
 fn message_of(alloc: Global, content: Content, size: u32) -> Result<Octets> {
     let (count, numbers) = match content {
-        Content::Ints => (size, size),
-        Content::Structs => (size / 4, size),
-        Content::Claim => (u32::MAX, (size / 4).saturating_sub(1)),
+        Content::Ints => (Some(size), size),
+        Content::Structs => (Some(size / 4), size),
+        Content::Twenty => (None, 20),
+        Content::Claim => (Some(u32::MAX), (size / 4).saturating_sub(1)),
     };
     let mut message = Octets::new(alloc);
-    let Ok(()) = message.append(&count.to_be_bytes()) else {
-        bail!("no memory for a message");
-    };
+    if let Some(count) = count {
+        let Ok(()) = message.append(&count.to_be_bytes()) else {
+            bail!("no memory for a message");
+        };
+    }
     for n in 0..numbers {
         let Ok(()) = message.append(&n.to_be_bytes()) else {
             bail!("no memory for a message");
@@ -102,8 +138,8 @@ pub fn read(alloc: Global, reading: Reading, content: Content, size: u32) -> Res
     if id as usize >= table.len() || message.len() > LONGEST_MESSAGE {
         bail!("a message that is too long");
     }
-    let Ok(code) = inlined(alloc, Encoding::Xdr, &table, id) else {
-        bail!("no memory to inline");
+    let Ok(code) = chunked(alloc, &table, id) else {
+        bail!("no memory for code");
     };
     match reading {
         Reading::Prepare => Ok(false),

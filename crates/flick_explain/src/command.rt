@@ -22,6 +22,8 @@ pub enum Verb {
     Unpipe,
     /// Each message gave the message of its reply.
     Serve,
+    /// Each message gave the message of the same request in a second format.
+    Bridge,
     /// The texts of the stub code were written.
     Stubs,
     /// What the file offers was written.
@@ -37,7 +39,7 @@ pub struct Run<'a> {
     pub verb: Verb,
     /// The language of the interface file.
     pub front: Front,
-    /// The format of the messages; `xdr` for `show`, which makes none.
+    /// The format of the messages, of two the first; `xdr` for `show`, which makes none.
     pub back: Back,
     /// The path of the interface file.
     pub path: &'a [u8],
@@ -52,16 +54,16 @@ pub fn run_of(words: &Words) -> Option<Run<'_>> {
     match words.as_slice() {
         [verb, front, path] => show_of(verb, front, path),
         [verb, front, back, path] => over_file(verb, front, back, path),
-        [verb, front, back, path, replies] => serve_of(verb, front, back, path, replies),
+        [verb, front, back, fourth, fifth] => over_two(verb, front, back, fourth, fifth),
         [verb, front, back, path, option, lines] => {
             if is_option(option) {
                 return read_from(over_file(verb, front, back, path)?, lines);
             }
             make_of(verb, front, back, path)
         }
-        [verb, front, back, path, replies, option, lines] => {
+        [verb, front, back, fourth, fifth, option, lines] => {
             if is_option(option) {
-                return read_from(serve_of(verb, front, back, path, replies)?, lines);
+                return read_from(over_two(verb, front, back, fourth, fifth)?, lines);
             }
             None
         }
@@ -93,6 +95,35 @@ fn over_file<'a>(
     path: &'a Octets,
 ) -> Option<Run<'a>> {
     run_in(verb_of(verb.as_slice())?, front, back, path)
+}
+
+/// The run of `serve FRONT BACK FILE REPLIES` or of `bridge FRONT BACK1 BACK2 FILE`.
+fn over_two<'a>(
+    verb: &Octets,
+    front: &Octets,
+    back: &Octets,
+    fourth: &'a Octets,
+    fifth: &'a Octets,
+) -> Option<Run<'a>> {
+    match serve_of(verb, front, back, fourth, fifth) {
+        Some(run) => Some(run),
+        None => bridge_of(verb, front, back, fourth, fifth),
+    }
+}
+
+/// The run of `bridge FRONT BACK1 BACK2 FILE`.
+fn bridge_of<'a>(
+    verb: &Octets,
+    front: &Octets,
+    back: &Octets,
+    to: &Octets,
+    path: &'a Octets,
+) -> Option<Run<'a>> {
+    if verb.as_slice() != b"bridge".as_slice() {
+        return None;
+    }
+    wire_of(to.as_slice())?;
+    run_in(Verb::Bridge, front, back, path)
 }
 
 /// The run of `serve FRONT BACK FILE REPLIES`.

@@ -97,7 +97,7 @@ fn message_detail(
     match refusal.word {
         b"head" => head_reported(alloc, bound.back(), refusal.kind, message),
         b"interface" => interface_reported(alloc, bound, message),
-        b"operation" => operation_reported(alloc, bound.back(), message),
+        b"operation" | b"pair" => operation_reported(alloc, bound.back(), message),
         b"body" => body_detail(alloc, bound, refusal, message),
         _ => trailing_reported(alloc, message, refusal.kind),
     }

@@ -151,6 +151,13 @@ const OPERATION: Cause = Cause {
     of_names: false,
 };
 
+const PAIR: Cause = Cause {
+    what: "",
+    why: "the second format has no operation of this interface and name; xdr alone adds a procedure 0.",
+    repair: "declare the procedure in the file, with a name.",
+    of_names: false,
+};
+
 const TRAILING: Cause = Cause {
     what: "",
     why: "octets follow the last value.",
@@ -164,6 +171,7 @@ fn message_cause(word: &[u8]) -> Option<Cause> {
         b"hex" => Some(HEX),
         b"interface" => Some(INTERFACE),
         b"operation" => Some(OPERATION),
+        b"pair" => Some(PAIR),
         b"trailing" => Some(TRAILING),
         _ => None,
     }

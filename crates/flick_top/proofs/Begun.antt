@@ -5,7 +5,7 @@ use Rattle.kit_base.specs.Lines.{State}
 use Rattle.wire_def.specs.declared.encoding.Back.{Back}
 use Rattle.wire_frames.specs.Reading.{Reader}
 use Rattle.flick_top.specs.declared.job.Job.{Job}
-use Rattle.flick_top.specs.declared.job.Job.TheVariants.{Over, Pipe, Unpipe, Serve}
+use Rattle.flick_top.specs.declared.job.Job.TheVariants.{Over, Pipe, Unpipe, Serve, Bridge}
 use Rattle.flick_top.specs.declared.cutter.Cutter.{Cutter}
 use Rattle.flick_top.specs.declared.cutter.Cutter.TheVariants as cutters
 use Rattle.flick_top.specs.declared.items.Item.{Item}
@@ -21,12 +21,14 @@ stream_cut (Unpipe e) is = refl
 stream_cut (Over verb e) is = absurd (cc is)
 stream_cut (Pipe e) is = absurd (cc is)
 stream_cut (Serve s) is = absurd (cc is)
+stream_cut (Bridge s) is = absurd (cc is)
 
 lines_cut : (job : Job) → reads_stream job ≡ false → cutting_of job ≡ by_lines
 lines_cut (Unpipe e) is = absurd (cc is)
 lines_cut (Over verb e) is = refl
 lines_cut (Pipe e) is = refl
 lines_cut (Serve s) is = refl
+lines_cut (Bridge s) is = refl
 
 -- the parts of a stream, of which nothing was read
 pub parts-new : (job : Job) (back : Back) (r : Reader) → reads_stream job ≡ true → back ≡ (engine_in job).binding.back

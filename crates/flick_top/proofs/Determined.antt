@@ -10,10 +10,11 @@ use Rattle.flick_lines.specs.declared.verb.Verb.TheVariants.{Marshal, Unmarshal}
 use Rattle.flick_lines.specs.Sent.{Sending, nothing}
 use Rattle.flick_lines.proofs.Determined.{one_to}
 use Rattle.flick_lines.proofs.Sending.{one_sent}
+use Rattle.flick_bridge.proofs.Passing.{bridged_once}
 use Rattle.flick_serve.proofs.Answering.{line_once}
 use Rattle.flick_serve.proofs.Paying.{one_sending}
 use Rattle.flick_top.specs.declared.job.Job.{Job}
-use Rattle.flick_top.specs.declared.job.Job.TheVariants.{Over, Pipe, Unpipe, Serve}
+use Rattle.flick_top.specs.declared.job.Job.TheVariants.{Over, Pipe, Unpipe, Serve, Bridge}
 use Rattle.flick_top.specs.declared.items.Item.{Item}
 use Rattle.flick_top.specs.declared.items.Item.TheVariants as items
 use Rattle.flick_top.specs.Answer.{Answer, answer_by, answer_of, engine_in, IsTextTo, IsSentFor, IsLineAnswer, IsPartLine, IsAnswer}
@@ -23,12 +24,14 @@ one_text (Over verb e) octets x y p q = one_to verb e octets x y p q
 one_text (Pipe e) octets x y p q = one_to Marshal e octets x y p q
 one_text (Unpipe e) octets x y p q = one_to Unmarshal e octets x y p q
 one_text (Serve s) octets x y p q = line_once s.coded.binding s.coded.minor s.text octets x y p q
+one_text (Bridge s) octets x y p q = bridged_once s octets x y p q
 
 one_for : (job : Job) (octets : List ℕ) (s t : Sending) → IsSentFor job octets s → IsSentFor job octets t → s ≡ t
 one_for (Over verb e) octets s t p q = one_sent verb e octets s t p q
 one_for (Pipe e) octets s t p q = one_sent Marshal e octets s t p q
 one_for (Unpipe e) octets s t p q = one_sent Unmarshal e octets s t p q
 one_for (Serve r) octets s t p q = one_sending r octets s t p q
+one_for (Bridge b) octets s t p q = p ∙ sym q
 
 one_line : (job : Job) (line : Line) (a b : Answer) → IsLineAnswer job line a → IsLineAnswer job line b → a ≡ b
 one_line job (Text octets) a b (x, s, p, sent, is) (y, t, q, also, other) =

@@ -12,10 +12,11 @@ use Rattle.flick_lines.specs.declared.verb.Verb.TheVariants.{Marshal, Unmarshal}
 use Rattle.flick_lines.specs.Sent.{Sending, nothing}
 use Rattle.flick_lines.specs.Verbs.{IsAnswerTo}
 use Rattle.flick_lines.proofs.Sending.{some_sent}
+use Rattle.flick_bridge.specs.Bridged.{Bridging, IsBridged}
 use Rattle.flick_serve.specs.Served.{Serving, IsServed}
 use Rattle.flick_serve.proofs.Paying.{some_sending}
 use Rattle.flick_top.specs.declared.job.Job.{Job}
-use Rattle.flick_top.specs.declared.job.Job.TheVariants.{Over, Pipe, Unpipe, Serve}
+use Rattle.flick_top.specs.declared.job.Job.TheVariants.{Over, Pipe, Unpipe, Serve, Bridge}
 use Rattle.flick_top.specs.declared.items.Item.{Item}
 use Rattle.flick_top.specs.declared.items.Item.TheVariants as items
 use Rattle.flick_top.specs.Answer.{Answer, answer_by, answer_of, engine_in, frame_name, frame_refusal, Answering, IsTextTo, IsSentFor, IsLineAnswer, IsPartLine, IsAnswer, IsAnswering}
@@ -52,12 +53,20 @@ serve_has job s e is same texts lines =
     let of : AllAnswer s.coded = subst AllAnswer same texts in
     subst TextsHave (sym is) (record { lines = lines; messages = λ octets. of Unmarshal octets })
 
+-- of a bridge
+pub bridge_has : (job : Job) (s : Bridging) (e : Coded) → job ≡ Bridge s → e ≡ s.from → AllAnswer e
+    → ((octets : List ℕ) → (text : List ℕ) × IsBridged s octets text) → TextsHave job
+bridge_has job s e is same texts lines =
+    let of : AllAnswer s.from = subst AllAnswer same texts in
+    subst TextsHave (sym is) (record { lines = lines; messages = λ octets. of Unmarshal octets })
+
 -- something is sent for it, or nothing
 sent_has : (job : Job) (octets text : List ℕ) → IsTextTo job octets text → (sent : Sending) × IsSentFor job octets sent
 sent_has (Over verb e) octets text is = some_sent verb e octets
 sent_has (Pipe e) octets text is = some_sent Marshal e octets
 sent_has (Unpipe e) octets text is = some_sent Unmarshal e octets
 sent_has (Serve s) octets text is = some_sending s octets text is
+sent_has (Bridge s) octets text is = (nothing, refl)
 
 line_has : (job : Job) → TextsHave job → (line : Line) → (a : Answer) × IsLineAnswer job line a
 line_has job texts (Text octets) =

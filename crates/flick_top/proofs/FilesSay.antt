@@ -67,7 +67,7 @@ module _ (Shown : Type 0) (codes others : List Stub) (same : Shown → codes ≡
   bind_says w u None (Ok c) (Err f) p q = absurd q
   bind_says w u None (Err e) s p q = absurd p
 
-  bound_says : (w : Wire) (read : Read) (r s : Reported)
+  pub bound_says : (w : Wire) (read : Read) (r s : Reported)
       → BoundSays codes w read r → BoundSays others w read s → AreReported Shown r s
   bound_says w (Err e) r s p q = reported_by r s (Err e) (Err e) p q refl
   bound_says w (Ok u) r s p q = bind_says w u (bind_fault u (back_in w)) r s p q

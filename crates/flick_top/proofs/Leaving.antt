@@ -17,7 +17,7 @@ use Rattle.flick_top.specs.declared.saying.Saying.TheVariants.{LargeReplies}
 use Rattle.flick_top.specs.Command.{command_of, word_at}
 use Rattle.flick_top.specs.File.{Reported, IsOf, BindSays, BoundSays, longest_replies}
 use Rattle.flick_top.specs.Fronts.{Read}
-use Rattle.flick_top.specs.Coming.{Files, serving_task, ServesText, ServesFile, Acts, ActsOver, Comes}
+use Rattle.flick_top.specs.Coming.{Files, serving_task, ServesText, ServesFile, Acts, ActsOver, bridging_task, Bridges, Comes}
 use Rattle.flick_top.specs.Laws.{BoundFilesLeaveEngines}
 use Rattle.flick_top.specs.Made.{codes_of, IsEngineOver, LeavesEngine}
 use Rattle.flick_top.specs.Task.{Task, saying_task}
@@ -68,6 +68,18 @@ bound_over codes w read u reported is none says =
     let over : BindSays codes u w (bind_fault u (back_in w)) reported = subst (λ (r : Read). BoundSays codes w r reported) is says in
     subst (λ (f : Option BindErr). BindSays codes u w f reported) none over
 
+-- the task of a bridge has the engine of the messages that are read
+bridging_engine : (e : Coded) (second : Reported) → (bridging_task e second).engine ≡ Some e
+bridging_engine e (Ok x) = refl
+bridging_engine e (Err saying) = refl
+
+bridged_leaves : (codes : List Stub) (u : PlainUnit) (w to : Wire) (reported : Reported) (task : Task)
+    → IsOkAnd reported (λ e. IsOf u w e × (e.stubs ≡ codes)) → Bridges to reported task
+    → IfSome task.engine IsCoded → IsSomeAnd task.engine (IsEngineOver u w)
+bridged_leaves codes u w to (Ok e) task over (second, is, same) coded =
+    some_over u w task.engine e (ap (λ (t : Task). t.engine) same ∙ bridging_engine e second) over.0 coded
+bridged_leaves codes u w to (Err f) task over bridges coded = absurd over
+
 leaves : (codes : List Stub) (command : Option Command) (words : List (List ℕ)) (files : Files) (task : Task)
     → Comes codes command words files task → IfSome task.engine IsCoded → LeavesEngine task.engine command words files
 leaves codes None words files task comes coded = tt
@@ -77,6 +89,9 @@ leaves codes (Some (commands.Show front)) words files task comes coded = tt
 leaves codes (Some (commands.Over a n)) words files task (reported, (read, says, bound), acts) coded = λ u is none.
     let same : read ≡ Ok u = file_says n.front (files (word_at words n.file)) read (Ok u) says is in
     reported_over codes u n.wire a reported words files task (bound_over codes n.wire read u reported same none bound) acts coded
+leaves codes (Some (commands.Bridge n to)) words files task (reported, (read, says, bound), bridges) coded = λ u is none.
+    let same : read ≡ Ok u = file_says n.front (files (word_at words n.file)) read (Ok u) says is in
+    bridged_leaves codes u n.wire to reported task (bound_over codes n.wire read u reported same none bound) bridges coded
 
 -- what is left is the engine of the task
 pub bound_leaves : BoundFilesLeaveEngines

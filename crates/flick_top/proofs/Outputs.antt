@@ -19,6 +19,10 @@ use Rattle.flick_serve.specs.Given.{Given}
 use Rattle.flick_serve.specs.Served.{IsServed}
 use Rattle.flick_serve.proofs.Alike.{file_over, served_over}
 use Rattle.flick_serve.proofs.Deciding.{given_once}
+use Rattle.flick_bridge.specs.Bridged.{Bridging, IsBridging}
+use Rattle.flick_bridge.proofs.Alike.{AreBridges, bridged_over}
+use Rattle.aoi.specs.Plain.{PlainUnit}
+use Rattle.flick_engine.specs.declared.wire.Wire.{Wire}
 use Rattle.flick_texts.specs.MadeText.{make_text}
 use Rattle.flick_texts.specs.Show.{show_text}
 use Rattle.flick_texts.specs.Spent.{all_sent}
@@ -35,16 +39,17 @@ use Rattle.flick_top.specs.declared.status.Status.{Status}
 use Rattle.flick_top.specs.declared.items.Item.{Item}
 use Rattle.flick_top.specs.declared.items.Item.TheVariants as items
 use Rattle.flick_top.specs.Answer.{Answer, answer_by, answer_of, engine_in, frame_of, is_refusal, written_of, Answering, IsTextTo, IsLineAnswer, IsPartLine, IsAnswer, answers, refuses, cutting_of}
-use Rattle.flick_top.specs.Coming.{Files, showing_task, text_before, serving_task, ServesText, ServesFile, Acts, ActsOver, Comes, AreAnswered}
+use Rattle.flick_top.specs.Coming.{Files, showing_task, text_before, serving_task, ServesText, ServesFile, Acts, ActsOver, IsSecond, bridging_task, Bridges, Comes, AreAnswered}
 use Rattle.flick_top.specs.Command.{command_of, word_at}
-use Rattle.flick_top.specs.File.{Reported, longest_replies}
+use Rattle.flick_top.specs.File.{Reported, BoundSays, codes_in, longest_replies}
 use Rattle.flick_top.specs.Fronts.{Read}
 use Rattle.flick_top.specs.Items.{Cutting, by_frames}
 use Rattle.flick_top.specs.Laws.{IsOverCodes, ShowsCodes, OneOutput}
 use Rattle.flick_top.specs.Status.{number_of}
 use Rattle.flick_top.specs.Task.{Task, saying_task, answering_task, writing_task, shapeless_task, items_of, Out, out_of}
 use Rattle.flick_top.proofs.Determined.{one_part, one_text}
-use Rattle.flick_top.proofs.FilesSay.{AreAlike, AreReported, file_says, reported_alike}
+use Rattle.flick_top.proofs.Bridging.{bridging_stands}
+use Rattle.flick_top.proofs.FilesSay.{AreAlike, AreReported, bound_says, file_says, reported_alike}
 use Rattle.flick_top.proofs.TwinTexts.{before_alike, stubs_alike, made_alike}
 
 -- ---- what the words come to
@@ -116,6 +121,48 @@ serves_file : (d e : Coded) → AreTwins d.binding e.binding → d.minor ≡ e.m
     → ServesFile d content t → ServesFile e content u → AreTasks t u
 serves_file d e alike minors None t u p q = refused_alike sayings.NoReplies d e t u p q
 serves_file d e alike minors (Some text) t u p q = within_serves d e alike minors text t u (nat_le (length text) longest_replies) p q
+
+-- bridges between such engines
+bridges_alike : (d e x y : Coded) → AreTwins d.binding e.binding → d.minor ≡ e.minor → AreTwins x.binding y.binding → x.minor ≡ y.minor
+    → d.binding.unit ≡ x.binding.unit
+    → AreJobs (jobs.Bridge (record { from = d; to = x })) (jobs.Bridge (record { from = e; to = y }))
+bridges_alike d e x y one first two second units =
+    let s : Bridging = record { from = d; to = x } in
+    let t : Bridging = record { from = e; to = y } in
+    let stands : IsBridging s = record { units = units; reads = one.one; writes = two.one } in
+    let other : IsBridging t = record { units = sym one.units ∙ units ∙ two.units; reads = one.other; writes = two.other } in
+    let alike : AreBridges s t = record { reads = one; writes = two; minors = second } in
+    record {
+      texts = λ octets a is. bridged_over s t stands other alike octets a is;
+      twins = one;
+      minors = first;
+      cuts = refl;
+      written = λ text. refl;
+    }
+
+second_alike : (d e : Coded) (to : Wire) → AreTwins d.binding e.binding → d.minor ≡ e.minor → (x y : Reported) → IsSecond d to x
+    → IsSecond e to y → AreReported ⊥ x y → (t u : Task) → t ≡ bridging_task d x → u ≡ bridging_task e y → AreTasks t u
+second_alike d e to twins minors (Ok x) (Ok y) p q alike t u is other =
+    tasks_by t u (bridging_task d (Ok x)) (bridging_task e (Ok y)) is other
+    (record {
+      text = refl;
+      status = refl;
+      feeds = bridges_alike d e x y twins minors alike.twins alike.minors (bridging_stands d to x p);
+    })
+second_alike d e to twins minors (Ok x) (Err f) p q alike t u is other = absurd alike
+second_alike d e to twins minors (Err g) (Ok y) p q alike t u is other = absurd alike
+second_alike d e to twins minors (Err g) (Err f) p q alike t u is other =
+    refused_alike f d e t u (is ∙ ap (λ (s : Saying). saying_task s (Some d)) alike) other
+
+bridged_alike : (to : Wire) (r s : Reported) → AreReported ⊥ r s → (t u : Task) → Bridges to r t → Bridges to s u → AreTasks t u
+bridged_alike to (Ok d) (Ok e) alike t u (x, p, is) (y, q, other) =
+    let there = subst (λ (v : PlainUnit). BoundSays (codes_in x) to (Ok v) x) alike.twins.units p in
+    let same = bound_says ⊥ (codes_in x) (codes_in y) (λ none. absurd none) to (Ok e.binding.unit) x y there q in
+    second_alike d e to alike.twins alike.minors x y p q same t u is other
+bridged_alike to (Ok d) (Err f) alike t u p q = absurd alike
+bridged_alike to (Err g) (Ok e) alike t u p q = absurd alike
+bridged_alike to (Err g) (Err f) alike t u p q =
+    no_feed t u (saying_task f None) refl (p ∙ ap (λ (s : Saying). saying_task s None) alike) q
 
 -- where an action shows the codes, a verb that is `count` does
 verb_alike : (v : Verb) (d e : Coded) → AreAlike (IsOverCodes (actions.Answer v)) d e → AreAlike (v ≡ Count) d e
@@ -202,6 +249,8 @@ over_files codes others (Some (commands.Show front)) words files t u shown (r, s
 over_files codes others (Some (commands.Over a n)) words files t u shown (r, mr, p) (s, ms, q) =
     let alike = reported_alike (IsOverCodes a) codes others shown n (files (word_at words n.file)) r s mr ms in
     over_reported a r s alike words files t u p q
+over_files codes others (Some (commands.Bridge n to)) words files t u shown (r, mr, p) (s, ms, q) =
+    bridged_alike to r s (reported_alike ⊥ codes others (λ none. absurd none) n (files (word_at words n.file)) r s mr ms) t u p q
 
 -- ---- what is written
 

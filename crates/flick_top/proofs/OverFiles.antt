@@ -7,15 +7,16 @@ use Rattle.stub_codes.specs.Stubs.{Coded}
 use Rattle.flick_lines.specs.Sent.{Sending, IsSpentBy}
 use Rattle.flick_texts.specs.MadeText.{make_text}
 use Rattle.flick_texts.specs.Spent.{all_sent}
+use Rattle.flick_engine.specs.declared.wire.Wire.{Wire}
 use Rattle.flick_top.specs.declared.command.Action.{Action}
 use Rattle.flick_top.specs.declared.command.Action.TheVariants.{Serve, Make}
 use Rattle.flick_top.specs.declared.command.Command.{Command}
-use Rattle.flick_top.specs.declared.command.Command.TheVariants.{Over}
+use Rattle.flick_top.specs.declared.command.Command.TheVariants.{Over, Bridge}
 use Rattle.flick_top.specs.declared.command.Named.{Named}
 use Rattle.flick_top.specs.declared.job.Job.{Job}
 use Rattle.flick_top.specs.declared.prepared.Prepared.{Prepared}
 use Rattle.flick_top.specs.declared.saying.Saying.{Saying}
-use Rattle.flick_top.specs.Coming.{Files, IsMadeOf, ServesFile, Acts, Comes}
+use Rattle.flick_top.specs.Coming.{Files, IsMadeOf, BridgesFile, ServesFile, Acts, Comes}
 use Rattle.flick_top.specs.Command.{word_at}
 use Rattle.flick_top.specs.File.{Reported, codes_in}
 use Rattle.flick_top.specs.Made.{HasCodes, codes_of}
@@ -51,6 +52,16 @@ pub alone-comes : (command k : Command) (words : List (List ℕ)) (files : Files
 alone-comes command k words files p buf is comes =
     is-in (Comes (codes_of (engine_of p)) (Some command) words files) p buf
     (subst (λ (x : Command). Comes (codes_of (engine_of p)) (Some x) words files (task_in p [])) (sym is) comes)
+
+-- to bridge from the file at a path
+pub bridged-comes : {E : Type 0} (x : Result Prepared E) (command : Command) (n : Named) (to : Wire) (words : List (List ℕ))
+    (told : Option Files) (path : List ℕ) (buf : Buf) → command ≡ Bridge n to → path ≡ word_at words n.file
+    → IfOk x (λ p. (files : Files) → told ≡ Some files → BridgesFile (codes_of (engine_of p)) n to (files path) (task_in p []))
+    → IfOk x (λ p. (files : Files) → told ≡ Some files → ComesIn (Some command) words files p buf buf)
+bridged-comes (Ok p) command n to words told path buf is at bridges = λ files known.
+    alone-comes command (Bridge n to) words files p buf is
+    (subst (λ (o : List ℕ). BridgesFile (codes_of (engine_of p)) n to (files o) (task_in p [])) at (bridges files known))
+bridged-comes (Err f) command n to words told path buf is at bridges = tt
 
 -- what is said in place of what would be made
 pub said-comes : (command : Command) (a : Action) (n : Named) (words : List (List ℕ)) (files : Files) (reported : Reported)

@@ -22,10 +22,10 @@ use Rattle.flick_top.specs.declared.command.Command.TheVariants as commands
 use Rattle.flick_top.specs.declared.job.Job.TheVariants as jobs
 use Rattle.flick_top.specs.declared.saying.Saying.TheVariants as sayings
 use Rattle.flick_top.specs.Command.{command_of, word_at}
-use Rattle.flick_top.specs.File.{Reported, BindSays, BoundSays, FileSays, longest_replies}
+use Rattle.flick_top.specs.File.{Reported, BindSays, BoundSays, FileSays, codes_in, longest_replies}
 use Rattle.flick_top.specs.Fronts.{Read, UnitOf}
 use Rattle.flick_top.specs.Laws.{WordsHaveTasks}
-use Rattle.flick_top.specs.Coming.{Files, showing_task, text_before, serving_task, ServesText, ServesFile, Acts, ActsOver, Comes}
+use Rattle.flick_top.specs.Coming.{Files, showing_task, text_before, serving_task, ServesText, ServesFile, Acts, ActsOver, bridging_task, Bridges, Comes}
 use Rattle.flick_top.specs.Task.{Task, saying_task, answering_task, writing_task, shapeless_task}
 use Rattle.flick_top.proofs.UnitsOfFronts.{IsSoundRead, unit_has}
 
@@ -43,6 +43,35 @@ bind_has codes u w None sound is =
 bound_has : (codes : List Stub) (w : Wire) (read : Read) → IsSoundRead read → (reported : Reported) × BoundSays codes w read reported
 bound_has codes w (Err saying) sound = (Err saying, refl)
 bound_has codes w (Ok u) sound = bind_has codes u w (bind_fault u (back_in w)) sound refl
+
+-- ---- a second format
+
+bind_second : (u : PlainUnit) (w : Wire) (e : Option BindErr) → IsSoundPlain u → bind_fault u (back_in w) ≡ e
+    → (second : Reported) × BindSays (codes_in second) u w e second
+bind_second u w (Some e) sound is = (Err (sayings.Bind e), refl)
+bind_second u w None sound is =
+    let (b, stands, unit, of, nodes) = units_bound u (back_in w) sound is in (
+      Ok (record { binding = b; minor = minor_in w; stubs = [] }),
+      ((record { stands = stands; unit = unit; back = of; nodes = nodes }, refl), refl),
+    )
+
+-- the unit of an engine is sound
+bound_sound : (codes : List Stub) (u : PlainUnit) (w : Wire) (x : Option BindErr) (e : Coded) → BindSays codes u w x (Ok e)
+    → IsSoundPlain e.binding.unit
+bound_sound codes u w (Some x) e is = absurd (cc is)
+bound_sound codes u w None e (over, same) = over.0.stands.sound
+
+engine_sound : (codes : List Stub) (w : Wire) (read : Read) (e : Coded) → BoundSays codes w read (Ok e) → IsSoundPlain e.binding.unit
+engine_sound codes w (Err saying) e is = absurd (cc is)
+engine_sound codes w (Ok u) e says = bound_sound codes u w (bind_fault u (back_in w)) e says
+
+bridges_have : (codes : List Stub) (w to : Wire) (read : Read) (reported : Reported) → BoundSays codes w read reported
+    → (task : Task) × Bridges to reported task
+bridges_have codes w to read (Err saying) bound = (saying_task saying None, refl)
+bridges_have codes w to read (Ok e) bound =
+    let u = e.binding.unit in
+    let (second, is) = bind_second u to (bind_fault u (back_in to)) (engine_sound codes w read e bound) refl in
+    (bridging_task e second, (second, is, refl))
 
 -- ---- a file
 
@@ -93,6 +122,11 @@ command_has codes (Some (commands.Over a n)) words files =
     let (reported, bound) = bound_has codes n.wire read sound in
     let (task, acts) = reported_has a reported words files in
     (task, (reported, (read, says, bound), acts))
+command_has codes (Some (commands.Bridge n to)) words files =
+    let (read, says, sound) = file_has n.front (files (word_at words n.file)) in
+    let (reported, bound) = bound_has codes n.wire read sound in
+    let (task, bridges) = bridges_have codes n.wire to read reported bound in
+    (task, (reported, (read, says, bound), bridges))
 
 pub words_task : WordsHaveTasks
 words_task codes words files = command_has codes (command_of words) words files

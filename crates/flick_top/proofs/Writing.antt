@@ -1,15 +1,25 @@
 -- What answers an item, by what answers a line or a part of a stream.
-use Rattle.std.proofs.Common.{◌≡◌, ℕ, List, [], Bool, true, false, refl, sym, subst}
-use Rattle.std.specs.Prelude.{codes}
+use Rattle.std.proofs.Common.{◌≡◌, ℕ, List, [], Bool, true, false, Result, refl, sym, subst}
+use Rattle.std.specs.Prelude.{codes, OnOk}
 use Rattle.kit_base.specs.declared.lines.Line.{Line}
 use Rattle.kit_base.specs.declared.lines.Line.TheVariants.{Text, Long, End}
 use Rattle.wire_frames.specs.declared.messages.Part.{Part}
 use Rattle.raw_buf.specs.Buf.{Buf}
 use Rattle.flick_lines.specs.Sent.{nothing}
+use Rattle.flick_lines.proofs.Options.{on-any}
+use Rattle.flick_bridge.specs.Bridged.{Bridging}
+use Rattle.flick_top.specs.declared.answered.Answered.{Answered}
 use Rattle.flick_top.specs.declared.job.Job.{Job}
+use Rattle.flick_top.specs.declared.job.Job.TheVariants as jobs
 use Rattle.flick_top.specs.declared.items.Item.{Item}
 use Rattle.flick_top.specs.declared.items.Item.TheVariants as items
 use Rattle.flick_top.specs.Answer.{answer_by, answer_of, engine_in, is_refusal, written_of, AnswersIn, IsPartLine, IsWrittenFor, SendsFor}
+
+-- for what a bridge answers nothing is sent
+pub bridge-sends : {E : Type 0} (r : Result Answered E) (job : Job) (s : Bridging) (octets : List ℕ) (buf : Buf) → job ≡ jobs.Bridge s
+    → OnOk r (SendsFor job octets buf buf)
+bridge-sends r job s octets buf is =
+    on-any r (SendsFor job octets buf buf) (subst (λ (j : Job). SendsFor j octets buf buf) (sym is) (nothing, refl, refl))
 
 -- the octets of a line
 pub text-written : (job : Job) (line : Line) (octets o : List ℕ) (refused : Bool) (old new : Buf) → line ≡ Text octets

@@ -16,10 +16,11 @@ use Rattle.flick_lines.specs.declared.verb.Verb.{Verb}
 use Rattle.flick_lines.specs.declared.verb.Verb.TheVariants.{Marshal, Unmarshal}
 use Rattle.flick_lines.specs.Sent.{Sending, nothing, IsSentTo, Sends}
 use Rattle.flick_lines.specs.Verbs.{IsAnswerTo}
+use Rattle.flick_bridge.specs.Bridged.{IsBridged}
 use Rattle.flick_serve.specs.Served.{IsServed}
 use Rattle.flick_serve.specs.Spent.{IsServeSent}
 use Rattle.flick_top.specs.declared.job.Job.{Job}
-use Rattle.flick_top.specs.declared.job.Job.TheVariants.{Over, Pipe, Unpipe, Serve}
+use Rattle.flick_top.specs.declared.job.Job.TheVariants.{Over, Pipe, Unpipe, Serve, Bridge}
 use Rattle.flick_top.specs.declared.items.Item.{Item}
 use Rattle.flick_top.specs.declared.items.Item.TheVariants as items
 use Rattle.flick_top.specs.Items.{Cutting, by_frames, by_lines}
@@ -30,6 +31,7 @@ engine_in (Over verb e) = e
 engine_in (Pipe e) = e
 engine_in (Unpipe e) = e
 engine_in (Serve s) = s.coded
+engine_in (Bridge s) = s.from
 
 -- an answer: its octets, whether it is a refusal, and what was sent for it
 pub record Answer : Type 0 where
@@ -52,6 +54,7 @@ IsTextTo (Over verb e) octets text = IsAnswerTo verb e octets text
 IsTextTo (Pipe e) octets text = IsAnswerTo Marshal e octets text
 IsTextTo (Unpipe e) octets text = IsAnswerTo Unmarshal e octets text
 IsTextTo (Serve s) octets text = IsServed s.coded.binding s.coded.minor s.text octets text
+IsTextTo (Bridge s) octets text = IsBridged s octets text
 
 -- what is sent for it
 abbrev pub IsSentFor : Job → List ℕ → Sending → Type 0
@@ -59,6 +62,8 @@ IsSentFor (Over verb e) octets sent = IsSentTo verb e octets sent
 IsSentFor (Pipe e) octets sent = IsSentTo Marshal e octets sent
 IsSentFor (Unpipe e) octets sent = IsSentTo Unmarshal e octets sent
 IsSentFor (Serve s) octets sent = IsServeSent s octets sent
+-- a bridge makes its messages elsewhere
+IsSentFor (Bridge s) octets sent = sent ≡ nothing
 
 -- a message as it stands in a stream
 abbrev pub framed : Back → List ℕ → List ℕ
@@ -148,6 +153,7 @@ is_exact (Over verb e) = true
 is_exact (Pipe e) = true
 is_exact (Unpipe e) = true
 is_exact (Serve s) = false
+is_exact (Bridge s) = true
 
 -- what becomes of a buffer where the octets of a line are answered
 abbrev pub SendsFor : Job → List ℕ → Buf → Buf → Type 0

@@ -2,6 +2,9 @@
 use Rattle.std.specs.Prelude.{◌≡◌, ℕ, List, [], length, nat_le, MatchBool, Option, Some, None, Result, Ok, Err}
 use Rattle.stub_codes.specs.declared.stub.Stub.{Stub}
 use Rattle.stub_codes.specs.Stubs.{Coded}
+use Rattle.idl_lex.specs.declared.kinds.Front.{Front}
+use Rattle.flick_engine.specs.declared.wire.Wire.{Wire}
+use Rattle.flick_bridge.specs.Bridged.{Bridging}
 use Rattle.flick_lines.specs.declared.verb.Verb.{Verb}
 use Rattle.flick_lines.specs.declared.verb.Verb.TheVariants.{Count}
 use Rattle.flick_serve.specs.Given.{Given, FileGives}
@@ -14,11 +17,12 @@ use Rattle.flick_top.specs.declared.command.Action.TheVariants as actions
 use Rattle.flick_top.specs.declared.command.Command.{Command}
 use Rattle.flick_top.specs.declared.command.Command.TheVariants as commands
 use Rattle.flick_top.specs.declared.command.Named.{Named}
+use Rattle.flick_top.specs.declared.file.NoBridge.{NoBridge}
 use Rattle.flick_top.specs.declared.job.Job.TheVariants as jobs
 use Rattle.flick_top.specs.declared.saying.Saying.TheVariants as sayings
 use Rattle.flick_top.specs.Answer.{Answering, IsAnswering}
 use Rattle.flick_top.specs.Command.{command_of, word_at}
-use Rattle.flick_top.specs.File.{Reported, FileSays, BoundSays, longest_replies}
+use Rattle.flick_top.specs.File.{Reported, FileSays, BoundSays, codes_in, longest_replies}
 use Rattle.flick_top.specs.Fronts.{Read}
 use Rattle.flick_top.specs.Task.{Task, saying_task, writing_task, answering_task, shapeless_task}
 use Rattle.flick_top.specs.declared.job.Job.{Job}
@@ -63,8 +67,44 @@ ActsOver action (Ok e) words files task = Acts action e words files task
 ActsOver action (Err saying) words files task = task ≡ saying_task saying None
 
 -- what the content of a file comes to by a front end and with messages of a format, where an engine has these codes
+abbrev pub IsMadeIn : List Stub → Front → Wire → Option (List ℕ) → Reported → Type 0
+IsMadeIn codes front wire content reported = (read : Read) × FileSays front content read × BoundSays codes wire read reported
+
+-- the same by the front end and the format that words name
 abbrev pub IsMadeOf : List Stub → Named → Option (List ℕ) → Reported → Type 0
-IsMadeOf codes n content reported = (read : Read) × FileSays n.front content read × BoundSays codes n.wire read reported
+IsMadeOf codes n content reported = IsMadeIn codes n.front n.wire content reported
+
+-- what an engine's unit comes to with messages of a second format
+abbrev pub IsSecond : Coded → Wire → Reported → Type 0
+IsSecond e to second = BoundSays (codes_in second) to (Ok e.binding.unit) second
+
+-- to bridge from the messages of an engine to those of a second one, or to say why there is none
+abbrev pub bridging_task : Coded → Reported → Task
+bridging_task e (Ok second) = answering_task [] (jobs.Bridge (record { from = e; to = second }))
+bridging_task e (Err saying) = saying_task saying (Some e)
+
+-- what `bridge` to a second format comes to over what was made for the first one, or is said instead
+abbrev pub Bridges : Wire → Reported → Task → Type 0
+Bridges to (Ok e) task = (second : Reported) × IsSecond e to second × (task ≡ bridging_task e second)
+Bridges to (Err saying) task = task ≡ saying_task saying None
+
+-- the same over the content of the file, where an engine has these codes
+abbrev pub BridgesFile : List Stub → Named → Wire → Option (List ℕ) → Task → Type 0
+BridgesFile codes n to content task = (reported : Reported) × IsMadeOf codes n content reported × Bridges to reported task
+
+-- the bridge from an engine to a second one, or what is said in its place
+abbrev pub bridge_of : Coded → Reported → Result Bridging NoBridge
+bridge_of e (Ok second) = Ok (record { from = e; to = second })
+bridge_of e (Err saying) = Err (record { saying = saying; engine = Some e })
+
+-- the bridge to a second format over what was made for the first one, or what is said in its place
+abbrev pub IsBridge : Wire → Reported → Result Bridging NoBridge → Type 0
+IsBridge to (Ok e) made = (second : Reported) × IsSecond e to second × (made ≡ bridge_of e second)
+IsBridge to (Err saying) made = made ≡ Err (record { saying = saying; engine = None })
+
+-- the same over the content of the file
+abbrev pub IsBridgeOf : Named → Wire → Option (List ℕ) → Result Bridging NoBridge → Type 0
+IsBridgeOf n to content made = (reported : Reported) × IsMadeOf (codes_in reported) n content reported × IsBridge to reported made
 
 -- to write the text of a unit that was read, or what is said instead
 abbrev pub showing_task : Read → Task
@@ -80,6 +120,7 @@ Comes codes (Some (commands.Show front)) words files task =
     (read : Read) × FileSays front (files (word_at words 2)) read × (task ≡ showing_task read)
 Comes codes (Some (commands.Over action n)) words files task =
     (reported : Reported) × IsMadeOf codes n (files (word_at words n.file)) reported × ActsOver action reported words files task
+Comes codes (Some (commands.Bridge n to)) words files task = BridgesFile codes n to (files (word_at words n.file)) task
 
 -- the words come to this task over these files
 abbrev pub IsTask : List Stub → List (List ℕ) → Files → Task → Type 0

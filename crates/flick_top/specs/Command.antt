@@ -8,7 +8,7 @@ use Rattle.flick_lines.specs.declared.verb.Verb.TheVariants.{Marshal, Unmarshal,
 use Rattle.flick_top.specs.declared.command.Action.{Action}
 use Rattle.flick_top.specs.declared.command.Action.TheVariants.{Answer, Pipe, Unpipe, Serve, Stubs, Make}
 use Rattle.flick_top.specs.declared.command.Command.{Command}
-use Rattle.flick_top.specs.declared.command.Command.TheVariants.{Help, Version, Show, Over}
+use Rattle.flick_top.specs.declared.command.Command.TheVariants.{Help, Version, Show, Over, Bridge}
 use Rattle.flick_top.specs.Fronts.{front_of}
 use Rattle.flick_top.specs.Numbers.{number_in}
 
@@ -61,13 +61,33 @@ over_file (Some a) None wire = None
 over_file (Some a) (Some f) None = None
 over_file (Some a) (Some f) (Some w) = Some (Over a (record { front = f; wire = w; file = 3 }))
 
+-- `bridge`, a front end and two formats of messages, each where its word names one, over the file of the fifth word
+abbrev pub bridge_between : Option Front → Option Wire → Option Wire → Option Command
+bridge_between None from to = None
+bridge_between (Some f) None to = None
+bridge_between (Some f) (Some w) None = None
+bridge_between (Some f) (Some w) (Some x) = Some (Bridge (record { front = f; wire = w; file = 4 }) x)
+
+-- the same by its word, where one word more follows, that of FILE
+abbrev pub bridging : List ℕ → Option Front → Option Wire → Option Wire → List (List ℕ) → Option Command
+bridging word front from to [] = None
+bridging word front from to (file ∷ []) = if bytes_eq word (codes "bridge") then bridge_between front from to else None
+bridging word front from to (a ∷ b ∷ words) = None
+
+-- the first command, or else the second
+abbrev pub either_command : Option Command → Option Command → Option Command
+either_command None second = second
+either_command (Some c) second = Some c
+
 -- the command, where the words have the shape of one
 abbrev pub command_of : List (List ℕ) → Option Command
 command_of [] = None
 command_of (word ∷ []) = option_of word
 command_of (a ∷ b ∷ []) = None
 command_of (word ∷ front ∷ file ∷ []) = showing word (front_of front)
-command_of (word ∷ front ∷ back ∷ file ∷ more) = over_file (action_of word more) (front_of front) (wire_of back)
+command_of (word ∷ front ∷ back ∷ fourth ∷ more) =
+    either_command (bridging word (front_of front) (wire_of back) (wire_of fourth) more)
+    (over_file (action_of word more) (front_of front) (wire_of back))
 
 -- the word at a place
 abbrev pub word_at : List (List ℕ) → ℕ → List ℕ
@@ -84,10 +104,12 @@ IsOverItems _ = ⊥
 -- a command that answers the items of its input
 abbrev pub AnswersItems : Option Command → Type 0
 AnswersItems (Some (Over action n)) = IsOverItems action
+AnswersItems (Some (Bridge n to)) = Unit {0}
 AnswersItems _ = ⊥
 
 -- a command over files
 abbrev pub ReadsFiles : Option Command → Type 0
 ReadsFiles (Some (Show front)) = Unit {0}
 ReadsFiles (Some (Over action n)) = Unit {0}
+ReadsFiles (Some (Bridge n to)) = Unit {0}
 ReadsFiles _ = ⊥

@@ -3,20 +3,20 @@
 ghost use Rattle.std.specs.Prelude.{◌≡◌, ◌≢◌, ◌≤◌, [], Ok, Some, IfOk, IfErr, IfSome};
 ghost use Rattle.kit_base.specs.Causes.{Rose};
 ghost use Rattle.raw_buf.specs.Buf.{NoneFell};
-ghost use Rattle.flick_top.specs.Coming.{Files, ServesFile, ServesText, showing_task, text_before};
+ghost use Rattle.flick_top.specs.Coming.{Files, BridgesFile, ServesFile, ServesText, showing_task, text_before};
 ghost use Rattle.flick_top.specs.Command.{AnswersItems, IsOverItems, ReadsFiles};
 ghost use Rattle.flick_top.specs.File.{plainly};
-ghost use Rattle.flick_top.specs.Made.{HasCodes};
-ghost use Rattle.flick_top.specs.Task.{answering_task, task_in};
+ghost use Rattle.flick_top.specs.Made.{HasCodes, codes_of};
+ghost use Rattle.flick_top.specs.Task.{answering_task, engine_of, task_in};
 ghost use Rattle.flick_top.specs.Turn.{ActsIn, ComesIn, IsReady};
 
-use crate::command::{Action, Command, word_at};
-use crate::file::{TaskErr, engine_at, unit_at};
+use crate::command::{Action, Command, Named, word_at};
+use crate::file::{NoBridge, TaskErr, bridge_at, engine_at, unit_at};
 use crate::job::Job;
 use crate::prepared::Prepared;
 use crate::saying::Saying;
 use aoi::Unit;
-use flick_engine::Engine;
+use flick_engine::{Engine, Wire};
 use flick_lines::Verb;
 use flick_serve::{Server, WrongReplies};
 use flick_texts::{counted_text, make_text, show_text, stubs_text};
@@ -63,6 +63,36 @@ pub fn prepare<F: Shelf>(
                 Ok(engine) => acting(alloc, action, engine, words, shelf, buf),
                 Err(saying) => Ok(Prepared::of_saying(alloc, saying, None)?),
             }
+        }
+        Command::Bridge(named, to) => {
+            bridging(alloc, &named, to, word_at(words, named.file), shelf)
+        }
+    }
+}
+
+/// To bridge the messages of the file at a path to those of a second format, or what is said instead.
+fn bridging<F: Shelf>(
+    alloc: Global,
+    named: &Named,
+    to: Wire,
+    path: &[u8],
+    shelf: &mut F,
+) -> Result<Prepared, TaskErr>
+    // What it comes to.
+    ensures bridges { IfOk result (λ p. (files : Files) → F.files shelf.old ≡ Some files
+        → BridgesFile (codes_of (engine_of p)) named.now to (files path.now) (task_in p [])) }
+    ensures ready { IfOk result IsReady }
+    // Whether the shelf failed.
+    ensures files { F.files shelf.new ≡ F.files shelf.old }
+    ensures later { F.faults shelf.old ≤ F.faults shelf.new }
+    ensures cause { IfErr result (λ e. e ≡ TaskErr.Shelf → Rose (F.faults shelf.old) (F.faults shelf.new)) }
+    ensures stands { result ≢ Err TaskErr.Shelf → F.faults shelf.old ≡ F.faults shelf.new }
+{
+    match bridge_at(alloc, named, to, path, shelf)? {
+        Ok(bridge) => Ok(Prepared::of_job(Octets::new(alloc), Job::Bridge(bridge))),
+        Err(none) => {
+            let NoBridge { saying, engine } = none;
+            Ok(Prepared::of_saying(alloc, saying, engine)?)
         }
     }
 }

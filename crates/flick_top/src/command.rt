@@ -1,7 +1,7 @@
 //! The command that the words name.
 
 ghost use Rattle.std.specs.Prelude.{◌≡◌, ◌≤◌, IfSome};
-ghost use Rattle.flick_top.specs.Command.{command_of, option_of, last_action, serving, making, action_of, showing, over_file, word_at};
+ghost use Rattle.flick_top.specs.Command.{bridge_between, bridging, command_of, either_command, option_of, last_action, serving, making, action_of, showing, over_file, word_at};
 ghost use Rattle.flick_top.specs.Fronts as fronts;
 ghost use Rattle.flick_engine.specs.Backs as backs;
 
@@ -14,6 +14,9 @@ use kit_base::{Octets, Words};
 
 /// The place of the word of a file of replies, from 0.
 const REPLIES: usize = 4;
+
+/// The place of the file's word where two back ends are named, from 0.
+const BRIDGED: usize = 4;
 
 /// How many messages `make` makes at most.
 const MOST_MADE: u64 = 1_000_000;
@@ -29,6 +32,9 @@ pub enum Command {
     Show(Front),
     /// `COMMAND FRONT BACK FILE`, and what follows
     Over(Action, Named),
+    /// `bridge FRONT BACK1 BACK2 FILE`: the file and the format of the messages that are read, and that of those that are
+    /// written
+    Bridge(Named, Wire),
 }
 
 /// What is done over a file and a back end.
@@ -66,10 +72,19 @@ pub fn command_of(words: &Words) -> Option<Command>
     match words.as_slice() {
         [word] => option_of(word.as_slice()),
         [show, language, _] => showing(show.as_slice(), language.as_slice()),
-        [word, front, back, _, more @ ..] => over_file(
-            action_of(word.as_slice(), more),
-            front.as_slice(),
-            back.as_slice(),
+        [word, front, back, fourth, more @ ..] => either_command(
+            bridging(
+                word.as_slice(),
+                front.as_slice(),
+                back.as_slice(),
+                fourth.as_slice(),
+                more,
+            ),
+            over_file(
+                action_of(word.as_slice(), more),
+                front.as_slice(),
+                back.as_slice(),
+            ),
         ),
         _ => None,
     }
@@ -86,6 +101,49 @@ fn option_of(word: &[u8]) -> Option<Command>
         return Some(Command::Version);
     }
     None
+}
+
+/// The first command, or else the second.
+fn either_command(first: Option<Command>, second: Option<Command>) -> Option<Command>
+    ensures value { result ≡ either_command first second }
+{
+    match first {
+        Some(command) => Some(command),
+        None => second,
+    }
+}
+
+/// `bridge` of a front end and two formats of messages, before a file.
+fn bridging(word: &[u8], front: &[u8], from: &[u8], to: &[u8], more: &[Octets]) -> Option<Command>
+    ensures value { result ≡ bridging word.now (fronts.front_of front.now) (backs.wire_of from.now)
+        (backs.wire_of to.now) more.now }
+{
+    match more {
+        [_] => {
+            if word == b"bridge".as_slice() {
+                return bridge_between(front_of(front), wire_of(from), wire_of(to));
+            }
+            None
+        }
+        _ => None,
+    }
+}
+
+/// `bridge`, where its words name a front end and two formats of messages.
+fn bridge_between(front: Option<Front>, from: Option<Wire>, to: Option<Wire>) -> Option<Command>
+    ensures value { result ≡ bridge_between front from to }
+{
+    let front = front?;
+    let wire = from?;
+    let to = to?;
+    Some(Command::Bridge(
+        Named {
+            front,
+            wire,
+            file: BRIDGED,
+        },
+        to,
+    ))
 }
 
 /// The command of an action, a front end and a format of messages, before a file.

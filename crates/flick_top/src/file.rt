@@ -5,19 +5,29 @@ ghost use Rattle.kit_base.specs.Causes.{Rose};
 ghost use Rattle.aoi.specs.Plain.{plain, IsSoundPlain};
 ghost use Rattle.flick_engine.specs.Backs.{back_in};
 ghost use Rattle.pres.specs.Faults.{bind_fault};
-ghost use Rattle.flick_top.specs.Coming.{Files, IsMadeOf};
+ghost use Rattle.flick_top.specs.Coming.{Files, IsBridgeOf, IsMadeIn, IsMadeOf, bridge_of};
 ghost use Rattle.flick_top.specs.File.{FileSays, BindSays, BoundSays, IsSoundly, codes_in, plainly};
 
 use crate::command::Named;
 use crate::fronts::unit_of;
 use crate::saying::Saying;
 use aoi::Unit;
+use flick_bridge::Bridge;
 use flick_engine::{Engine, Wire};
 use idl_lex::Front;
 use kit_base::limits::LONGEST_FILE;
 use kit_base::{NoMemory, Shelf, ShelfErr};
 use pres::{BindErr, bind};
 use std::alloc::Global;
+
+/// Why there is no bridge: what is said instead, and the engine of the messages that are read, where one was made.
+#[derive(Drop)]
+pub struct NoBridge {
+    /// What is said.
+    pub saying: Saying,
+    /// The engine of the messages that are read.
+    pub engine: Option<Engine>,
+}
 
 /// Why there is no task.
 #[derive(Clone, Copy, Debug, PartialEq, Eq)]
@@ -55,6 +65,83 @@ pub fn engine_at<F: Shelf>(
 {
     let read = unit_at(alloc, named.front, path, shelf)?;
     Ok(made_of(alloc, named.wire, read)?)
+}
+
+/// The bridge of the file at a path to a second format, or why there is none. The file is read once, and one octet more
+/// than the greatest length, which shows that a file is longer.
+pub fn bridge_at<F: Shelf>(
+    alloc: Global,
+    named: &Named,
+    to: Wire,
+    path: &[u8],
+    shelf: &mut F,
+) -> Result<Result<Bridge, NoBridge>, TaskErr>
+    ensures bridges { IfOk result (λ made. (files : Files) → F.files shelf.old ≡ Some files
+        → IsBridgeOf named.now to (files path.now) made) }
+    ensures files { F.files shelf.new ≡ F.files shelf.old }
+    ensures later { F.faults shelf.old ≤ F.faults shelf.new }
+    ensures cause { IfErr result (λ e. e ≡ TaskErr.Shelf → Rose (F.faults shelf.old) (F.faults shelf.new)) }
+    ensures stands { result ≢ Err TaskErr.Shelf → F.faults shelf.old ≡ F.faults shelf.new }
+{
+    match shelf.read_file(alloc, path, LONGEST_FILE + 1) {
+        Ok(text) => Ok(bridge_of(alloc, named, to, text.as_slice())?),
+        Err(ShelfErr::Absent) => Ok(Err(NoBridge {
+            saying: Saying::NoFile,
+            engine: None,
+        })),
+        Err(ShelfErr::Failed) => Err(TaskErr::Shelf),
+        Err(ShelfErr::NoMemory) => Err(TaskErr::NoMemory),
+    }
+}
+
+/// The bridge of a file's content to a second format, or why there is none. Each engine owns its unit, which is read
+/// once for each.
+fn bridge_of(
+    alloc: Global,
+    named: &Named,
+    to: Wire,
+    content: &[u8],
+) -> Result<Result<Bridge, NoBridge>, NoMemory>
+    ensures { IfOk result (λ made. IsBridgeOf named.now to (Some content.now) made) }
+{
+    match engine_of(alloc, named.front, named.wire, content)? {
+        Ok(from) => {
+            let second = engine_of(alloc, named.front, to, content)?;
+            Ok(bridged(from, second))
+        }
+        Err(saying) => Ok(Err(NoBridge {
+            saying,
+            engine: None,
+        })),
+    }
+}
+
+/// The engine of a file's content in a format, or what is said instead.
+fn engine_of(
+    alloc: Global,
+    front: Front,
+    wire: Wire,
+    content: &[u8],
+) -> Result<Result<Engine, Saying>, NoMemory>
+    ensures { IfOk result (λ reported.
+        IsMadeIn (codes_in reported) front wire (Some content.now) reported) }
+{
+    let read = read_content(alloc, front, content)?;
+    made_of(alloc, wire, read)
+}
+
+/// The bridge from an engine to a second one, or why there is none.
+fn bridged(from: Engine, second: Result<Engine, Saying>) -> Result<Bridge, NoBridge>
+    requires { IfOk second (λ to. from.binding.unit ≡ to.binding.unit) }
+    ensures { result ≡ bridge_of from second }
+{
+    match second {
+        Ok(to) => Ok(Bridge::new(from, to)),
+        Err(saying) => Err(NoBridge {
+            saying,
+            engine: Some(from),
+        }),
+    }
 }
 
 /// The unit of the file at a path, or what is said instead. One octet more than the greatest

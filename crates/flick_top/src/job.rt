@@ -9,6 +9,7 @@ ghost use Rattle.flick_top.specs.Task.{engine_in};
 
 use crate::answered::{Answered, as_answer, with_end};
 use crate::piped::piped;
+use flick_bridge::Bridge;
 use flick_engine::Engine;
 use flick_lines::{Verb, copied};
 use flick_serve::Server;
@@ -28,6 +29,8 @@ pub enum Job {
     Unpipe(Engine),
     /// The replies of a server.
     Serve(Server),
+    /// The messages of a bridge.
+    Bridge(Bridge),
 }
 
 impl Job {
@@ -53,6 +56,10 @@ impl Job {
                 let reply = server.answer(alloc, text, buf)?;
                 with_end(reply)
             }
+            Job::Bridge(bridge) => {
+                let message = bridge.answer(alloc, text)?;
+                with_end(message)
+            }
         }
     }
 
@@ -65,7 +72,7 @@ impl Job {
                 octets: Octets::new(alloc),
                 refused: true,
             }),
-            Job::Over(_, _) | Job::Unpipe(_) | Job::Serve(_) => {
+            Job::Over(_, _) | Job::Unpipe(_) | Job::Serve(_) | Job::Bridge(_) => {
                 let line = copied(alloc, b"! long\n")?;
                 Ok(as_answer(line))
             }
@@ -79,6 +86,7 @@ impl Job {
         match self {
             Job::Over(_, engine) | Job::Pipe(engine) | Job::Unpipe(engine) => engine,
             Job::Serve(server) => server.engine(),
+            Job::Bridge(bridge) => bridge.engine(),
         }
     }
 
@@ -91,6 +99,7 @@ impl Job {
             Job::Pipe(_) => false,
             Job::Unpipe(_) => true,
             Job::Serve(_) => false,
+            Job::Bridge(_) => false,
         }
     }
 
@@ -106,6 +115,10 @@ impl Job {
                 flick_lines::lines_are_answered(server.engine());
                 server.lines_are_answered()
             }
+            Job::Bridge(bridge) => {
+                flick_lines::lines_are_answered(bridge.engine());
+                bridge.lines_are_answered()
+            }
         }
     }
 
@@ -118,6 +131,7 @@ impl Job {
                 engine.codes_are_the_operations()
             }
             Job::Serve(server) => server.engine().codes_are_the_operations(),
+            Job::Bridge(bridge) => bridge.engine().codes_are_the_operations(),
         }
     }
 
@@ -128,6 +142,7 @@ impl Job {
         match self {
             Job::Over(_, engine) | Job::Pipe(engine) | Job::Unpipe(engine) => engine,
             Job::Serve(server) => server.into_engine(),
+            Job::Bridge(bridge) => bridge.into_engine(),
         }
     }
 }

@@ -33,6 +33,8 @@ commands:\n\
 \x20                                digits: checks, moves, stores and rows\n\
 \x20 serve FRONT BACK FILE REPLIES  answer each message in hexadecimal digits by that of its\n\
 \x20                                reply, or by a dash; REPLIES has a reply record on each line\n\
+\x20 bridge FRONT BACK1 BACK2 FILE  answer each message in hexadecimal digits, which is one for\n\
+\x20                                BACK1, by that of the same request for BACK2\n\
 \x20 stubs FRONT BACK FILE          write the stub code of each operation\n\
 \x20 show FRONT FILE                write the types and operations of FILE\n\
 \x20 make FRONT BACK FILE NUMBER N  make N requests from NUMBER on, and write what is counted\n\

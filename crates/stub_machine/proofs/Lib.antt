@@ -4,6 +4,8 @@
 pub mod Rooms
 -- * Octets that are put one after the other fill a chunk, by induction on the chunk's cells
 pub mod Filling
+-- * The octets of a number that fits, by its sign
+pub mod Lows
 -- Steps after steps, run one after the other, by induction on the first steps
 pub mod Folds
 -- * What a buffer has spent does not fall, whatever is run, by induction on the steps

@@ -8,7 +8,7 @@ use Rattle.mint.specs.declared.value.Value.TheVariants.{Items, rolls-Items}
 use Rattle.mint.specs.declared.value.Value.TheFolds.{fold-roll-Value}
 use Rattle.mint.specs.Values.{Val, items, seen, seen_level, all_seen}
 use Rattle.mint.proofs.Fitting.{count-all_seen}
-use Rattle.cast_stub.specs.Parts.{on_some, field, in_group, at}
+use Rattle.cast_stub.specs.Parts.{on_some, field, in_group, at, IsThere}
 
 pub seen-Items : (vs : List Value) → seen (Items vs) ≡ items (all_seen vs)
 seen-Items vs = ap seen (sym (rolls-Items vs)) ∙ fold-roll-Value Val seen_level (Value-F.Items vs)
@@ -25,6 +25,19 @@ copied (Some b) = refl
 pub field_found : (vs : List Value) (n : ℕ) (r : Option (Bor Value)) → option_copied r ≡ slice_get vs n
     → option_map (λ w. seen w.now) r ≡ field n (all_seen vs)
 field_found vs n r e = copied r ∙ ap (option_map seen) e ∙ sym (field-all_seen vs n)
+
+-- a field that is there has a place among the values
+pub place_there : (vs : List Value) (n : ℕ) → IsThere (field n (all_seen vs)) → n < length vs
+place_there [] n there = absurd there
+place_there (v ∷ vs) zero there = omega arith
+place_there (v ∷ vs) (suc n) there = let k = place_there vs n there in omega (arith, k)
+
+-- and is the value at it
+pub field_there : (vs : List Value) (n : ℕ) (w : Value) → IsThere (field n (all_seen vs)) → w ≡ get_or vs n w
+    → Some (seen w) ≡ field n (all_seen vs)
+field_there [] n w there e = absurd there
+field_there (v ∷ vs) zero w there e = ap (λ x. Some (seen x)) e
+field_there (v ∷ vs) (suc n) w there e = field_there vs n w there e
 
 -- one more field of a path
 pub at-drop : (p : List ℕ) (i : ℕ) (v : Val) → i < length p → at (drop i p) v ≡ on_some (in_group (get_or p i 0) v) (at (drop (i + 1) p))

@@ -1,8 +1,8 @@
 //! Parts of a value, and the numbers that a put takes of them.
 
-ghost use Rattle.std.specs.Prelude.{◌≡◌, ◌+◌, ◌*◌, pos, length, option_map};
+ghost use Rattle.std.specs.Prelude.{◌≡◌, ◌+◌, ◌*◌, pos, length, option_map, Some};
 ghost use Rattle.mint.specs.Values.{seen, all_seen};
-ghost use Rattle.cast_stub.specs.Parts.{at, field, in_group, number_in, tag_in, flag_in, length_in, on_some};
+ghost use Rattle.cast_stub.specs.Parts.{at, field, in_group, number_in, tag_in, flag_in, length_in, on_some, IsThere};
 ghost use Rattle.mint.specs.Values.{arm_in, row_in};
 ghost use Rattle.stub_machine.specs.Picking.{PickedAt};
 
@@ -57,6 +57,7 @@ fn field_within(value: &Value, outer: u32, inner: u32) -> Option<&Value>
 }
 
 /// The part at a path of any length.
+#[inline(never)]
 #[tactic(auto, using(crate::proofs::PartLaws::parts))]
 fn part_within<'a>(path: &[u32], value: &'a Value) -> Option<&'a Value>
     ensures { option_map (λ w. seen w.now) result ≡ at path.now (seen value.now) }
@@ -71,15 +72,56 @@ fn part_within<'a>(path: &[u32], value: &'a Value) -> Option<&'a Value>
     Some(here)
 }
 
-/// The number that a value is.
+/// The number at a path, where there is one: it is not tested whether there is.
 #[inline(always)]
-pub fn number_of(value: &Value) -> Option<&i128>
-    ensures { option_map (λ n. n.now) result ≡ number_in (seen value.now) }
+pub fn number_there<'a>(path: &Path, value: &'a Value) -> &'a i128
+    requires { IsThere (on_some (at path.now (seen value.now)) number_in) }
+    ensures { Some result.now ≡ on_some (at path.now (seen value.now)) number_in }
+{
+    match part_there(path, value) {
+        Value::Num(n) => n,
+        _ => unreachable!(),
+    }
+}
+
+/// The part at a path, where there is one.
+#[inline(always)]
+#[tactic(auto, using(crate::proofs::PartLaws::parts))]
+fn part_there<'a>(path: &Path, value: &'a Value) -> &'a Value
+    requires { IsThere (at path.now (seen value.now)) }
+    ensures { Some (seen result.now) ≡ at path.now (seen value.now) }
+{
+    let path = path.as_slice();
+    match path.len() {
+        1 => field_there(value, path[0]),
+        2 => field_there(field_there(value, path[0]), path[1]),
+        _ => match part_within(path, value) {
+            Some(here) => here,
+            None => unreachable!(),
+        },
+    }
+}
+
+/// The value of a field, where there is one.
+#[inline(always)]
+fn field_there(value: &Value, n: u32) -> &Value
+    requires { IsThere (in_group n (seen value.now)) }
+    ensures { Some (seen result.now) ≡ in_group n (seen value.now) }
 {
     match value {
-        Value::Num(n) => Some(n),
-        _ => None,
+        Value::Group(values) => nth_there(values, n),
+        _ => unreachable!(),
     }
+}
+
+/// The value at a place, where there is one.
+#[inline(always)]
+#[tactic(auto, using(crate::proofs::PartLaws::parts))]
+fn nth_there(values: &Values, n: u32) -> &Value
+    requires { IsThere (field n (all_seen values.now)) }
+    ensures { Some (seen result.now) ≡ field n (all_seen values.now) }
+{
+    &values.as_slice()[n as usize]
 }
 
 /// How many elements a value has.

@@ -1,72 +1,94 @@
 //! The puts of a chunk.
 
-ghost use Rattle.std.specs.Prelude.{◌≡◌, ◌≤◌, ◌<◌, ◌+◌, ◌*◌, ◌^◌, ◌∷◌, [], pos, length, option_map, replicate, None, Some, IfSome};
+ghost use Rattle.std.specs.Prelude.{◌≡◌, ◌≢◌, ◌≤◌, ◌<◌, ◌+◌, ◌*◌, ◌^◌, ◌∷◌, [], pos, length, option_map, replicate, None, Some, IfSome};
 ghost use Rattle.kit_base.specs.Bytes.{le};
 ghost use Rattle.mint.specs.Values.{seen, all_seen};
 ghost use Rattle.cast_stub.specs.Parts.{on_some, at, number_in, tag_in, flag_in, length_in, IsThere};
-ghost use Rattle.cast_stub.specs.Puts.{wrapped, half_of, word, put_octets, offset, put_all};
+ghost use Rattle.cast_stub.specs.Puts.{wrapped, word, head_number, put_octets, offset, put_all};
 ghost use Rattle.wire_def.specs.Descriptors.{descriptor};
 ghost use Rattle.cast_stub.specs.Steps.{chunk_steps, over};
 ghost use Rattle.cast_stub.specs.declared.send.SendOp.TheVariants as op;
 ghost use Rattle.stub_machine.specs.Putting.{octets_in, Writes, OverAll};
 ghost use Rattle.stub_machine.specs.Run.{state_of, stored_times, Runs, Ends};
 
-use crate::parts::{flag_of, length_of, number_of, part, scaled, tag_of};
-use cast_stub::{Path, Put, Puts, SendOp, SendOps};
+use crate::parts::{flag_of, length_of, number_there, part, scaled, tag_of};
+use cast_stub::{HeadField, Path, Put, Puts, SendOp, SendOps};
 use mint::value::{Value, Values};
 use raw_buf::SendBuf;
 use wire_def::{Head, Order};
 
-/// A number that fits, modulo twice the half.
+/// A number that fits in an octet, modulo 2^8.
 #[inline(always)]
-fn wrap(half: u64, n: &i128) -> u64
-    requires half { half ≤ 2 ^ 63 }
-    requires fits { IsThere (wrapped half n.now) }
-    ensures { Some result ≡ wrapped half n.now }
+#[tactic(auto, using(crate::proofs::Lows::lows))]
+fn low1(n: &i128) -> u64
+    requires { IsThere (wrapped (2 ^ 7) n.now) }
+    ensures { Some result ≡ wrapped (2 ^ 7) n.now }
 {
-    let h = i128::from(half);
-    if *n >= 0 {
-        if *n < h + h {
-            *n as u64
-        } else {
-            unreachable!()
-        }
-    } else if *n >= -h {
-        (h + h + *n) as u64
-    } else {
-        unreachable!()
-    }
+    (n.cast_unsigned() % 256) as u64
 }
 
-/// Stores a number of a known width, in two's complement: the half is that of its width.
+/// A number that fits in two octets, modulo 2^16.
 #[inline(always)]
-fn put_half(buf: &mut SendBuf, off: usize, width: usize, half: u64, order: Order, n: &i128)
-    requires half { half_of width ≡ Some half }
-    requires there { IsThere (word width order n.now) }
-    requires within { off + octets_in (word width order n.now) ≤ length buf.old.front }
-    ensures { Writes buf.old buf.new off (word width order n.now) }
+#[tactic(auto, using(crate::proofs::Lows::lows))]
+fn low2(n: &i128) -> u64
+    requires { IsThere (wrapped (2 ^ 15) n.now) }
+    ensures { Some result ≡ wrapped (2 ^ 15) n.now }
 {
-    let v = wrap(half, n);
-    buf.put(off, width, order, v);
+    (n.cast_unsigned() % 65536) as u64
 }
 
-/// Stores a number, in two's complement: each arm knows its width, so that it is one store.
+/// A number that fits in four octets, modulo 2^32.
+#[inline(always)]
+#[tactic(auto, using(crate::proofs::Lows::lows))]
+fn low4(n: &i128) -> u64
+    requires { IsThere (wrapped (2 ^ 31) n.now) }
+    ensures { Some result ≡ wrapped (2 ^ 31) n.now }
+{
+    (n.cast_unsigned() % 4294967296) as u64
+}
+
+/// A number that fits in eight octets, modulo 2^64.
+#[inline(always)]
+#[tactic(auto, using(crate::proofs::Lows::lows))]
+fn low8(n: &i128) -> u64
+    requires { IsThere (wrapped (2 ^ 63) n.now) }
+    ensures { Some result ≡ wrapped (2 ^ 63) n.now }
+{
+    (n.cast_unsigned() % 18446744073709551616) as u64
+}
+
+/// Stores a number, in two's complement: without a call where it has four octets, as most have.
 #[inline(always)]
 pub fn put_word(buf: &mut SendBuf, off: usize, width: u32, order: Order, n: &i128)
     requires there { IsThere (word width order n.now) }
     requires within { off + octets_in (word width order n.now) ≤ length buf.old.front }
     ensures { Writes buf.old buf.new off (word width order n.now) }
 {
+    if width == 4 {
+        buf.put(off, 4, order, low4(n));
+    } else {
+        put_other(buf, off, width, order, n);
+    }
+}
+
+/// Stores a number of one, two or eight octets: each arm knows its width, so that it is one store.
+#[inline(never)]
+fn put_other(buf: &mut SendBuf, off: usize, width: u32, order: Order, n: &i128)
+    requires other { width ≢ 4 }
+    requires there { IsThere (word width order n.now) }
+    requires within { off + octets_in (word width order n.now) ≤ length buf.old.front }
+    ensures { Writes buf.old buf.new off (word width order n.now) }
+{
     match width {
-        1 => put_half(buf, off, 1, 128, order, n),
-        2 => put_half(buf, off, 2, 32768, order, n),
-        4 => put_half(buf, off, 4, 2147483648, order, n),
-        8 => put_half(buf, off, 8, 9223372036854775808, order, n),
+        1 => buf.put(off, 1, order, low1(n)),
+        2 => buf.put(off, 2, order, low2(n)),
+        8 => buf.put(off, 8, order, low8(n)),
         _ => unreachable!(),
     }
 }
 
 /// Stores the number at a path.
+#[inline(always)]
 fn put_number(buf: &mut SendBuf, off: u32, path: &Path, width: u32, order: Order, value: &Value)
     requires there { IsThere (on_some (on_some (at path.now (seen value.now)) number_in) (word width order)) }
     requires within { off
@@ -75,12 +97,7 @@ fn put_number(buf: &mut SendBuf, off: u32, path: &Path, width: u32, order: Order
     ensures { Writes buf.old buf.new off
         (on_some (on_some (at path.now (seen value.now)) number_in) (word width order)) }
 {
-    let Some(here) = part(path, value) else {
-        unreachable!()
-    };
-    let Some(n) = number_of(here) else {
-        unreachable!()
-    };
+    let n = number_there(path, value);
     put_word(buf, off as usize, width, order, n);
 }
 
@@ -190,8 +207,20 @@ fn put_short(
     buf.put(off as usize, 4, Order::Little, u64::from(number));
 }
 
-/// Stores what a put says.
-fn run_put(put: &Put, head: &Head, value: &Value, buf: &mut SendBuf)
+/// Stores a number of the head.
+fn put_head(buf: &mut SendBuf, off: u32, field: HeadField, width: u32, order: Order, head: &Head)
+    requires there { IsThere (word width order (pos (head_number field head.now))) }
+    requires within { off + octets_in (word width order (pos (head_number field head.now)))
+        ≤ length buf.old.front }
+    ensures { Writes buf.old buf.new off (word width order (pos (head_number field head.now))) }
+{
+    let n = i128::from(field.of(head));
+    put_word(buf, off as usize, width, order, &n);
+}
+
+/// Stores what a put says, of whichever kind.
+#[inline(never)]
+fn run_any(put: &Put, head: &Head, value: &Value, buf: &mut SendBuf)
     requires there { IsThere (put_octets head.now put.now (seen value.now)) }
     requires within { offset put.now + octets_in (put_octets head.now put.now (seen value.now))
         ≤ length buf.old.front }
@@ -208,14 +237,26 @@ fn run_put(put: &Put, head: &Head, value: &Value, buf: &mut SendBuf)
             buf, *off, path, *name, *size, *mul, value,
         ),
         Put::Const(off, octets) => buf.put_const(*off as usize, octets.as_slice()),
-        Put::Head(off, field, width, order) => {
-            let n = i128::from(field.of(head));
-            put_word(buf, *off as usize, *width, *order, &n)
-        }
+        Put::Head(off, field, width, order) => put_head(buf, *off, *field, *width, *order, head),
+    }
+}
+
+/// Stores what a put says: without a call where it is a number, as most are.
+#[inline(always)]
+fn run_put(put: &Put, head: &Head, value: &Value, buf: &mut SendBuf)
+    requires there { IsThere (put_octets head.now put.now (seen value.now)) }
+    requires within { offset put.now + octets_in (put_octets head.now put.now (seen value.now))
+        ≤ length buf.old.front }
+    ensures { Writes buf.old buf.new (offset put.now) (put_octets head.now put.now (seen value.now)) }
+{
+    match put {
+        Put::Num(off, path, width, order) => put_number(buf, *off, path, *width, *order, value),
+        _ => run_any(put, head, value, buf),
     }
 }
 
 /// Stores what each put says, one after the other.
+#[inline(always)]
 fn run_puts(size: u32, puts: &Puts, head: &Head, value: &Value, buf: &mut SendBuf)
     // What may be put.
     requires there { IsThere (put_all head.now (seen value.now) puts.now (replicate size None)) }
@@ -235,6 +276,7 @@ fn run_puts(size: u32, puts: &Puts, head: &Head, value: &Value, buf: &mut SendBu
 }
 
 /// Fills a chunk and appends it.
+#[inline(always)]
 pub fn run_chunk(size: u32, puts: &Puts, head: &Head, value: &Value, buf: &mut SendBuf)
     requires { Runs (chunk_steps size puts.now head.now (seen value.now)) (state_of buf.old) }
     ensures { Ends (chunk_steps size puts.now head.now (seen value.now)) (state_of buf.old)

@@ -171,7 +171,7 @@ settle_end ns fields rest values i h past =
     ∙ ap (λ (l : List Filling). with_prefix (all_seen values) (settles (all_drawn ns l))) (drop_all i rest (omega (arith, past, h.many)))
     ∙ ap (λ (x : Vals). Some x) (joined-no_more (all_seen values))
 
-seen-Group : (vs : List Value) → seen (value.Group vs) ≡ group (all_seen vs)
+pub seen-Group : (vs : List Value) → seen (value.Group vs) ≡ group (all_seen vs)
 seen-Group vs = ap seen (sym (value.rolls-Group vs)) ∙ fold-roll-Value Val seen_level (Value-F.Group vs)
 
 pub fields_settled : (ns : List Node) (d : Filling) (ds : Vec Filling Global) (vs : List Value) → d ≡ filling.Fields ds

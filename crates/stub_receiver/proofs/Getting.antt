@@ -36,7 +36,7 @@ passed_so true z s None e = absurd cc
 passed_so false z s (Some n) e = absurd cc
 passed_so false z s None e = refl
 
-scalar_taken : (T : Ty) (x : Width) (m : ℕ) (s : Place) (o : Option ℤ) → on_some (scalar_in T) (passing x m) ≡ o
+pub scalar_taken : (T : Ty) (x : Width) (m : ℕ) (s : Place) (o : Option ℤ) → on_some (scalar_in T) (passing x m) ≡ o
     → Holds (num_into x m (raw T) s)
     → Took (λ n. done (num n)) o s (num_into x m (raw T) s)
 scalar_taken (scalar_type t) x m s o e h = passed_so (is_scalar t (number_of (is_signed t) x m)) (number_of (is_signed t) x m) s o e

@@ -16,6 +16,8 @@ pub mod Running
 pub mod Blocking
 -- * Numbers that are put into drafts
 pub mod Getting
+-- * Structs of numbers whose fields are read in order, by induction on the values that were read
+pub mod Flattening
 -- * The numbers of a row are those of its image, by induction on how many numbers there are
 pub mod Images
 -- * Parts of drafts that are looked at

@@ -6,6 +6,7 @@ mod counts;
 mod desc;
 mod draft;
 mod errors;
+mod flat;
 mod gets;
 mod looping;
 mod machine;

@@ -12,6 +12,7 @@ use crate::blocks::{row_into, wide_into};
 use crate::desc::desc_into;
 use crate::draft::{Filling, exchange_part, fresh};
 use crate::errors::{Halt, tested};
+use crate::flat::{need_and_take, run_flat};
 use crate::looping::{Elements, elements_of};
 use crate::machine::Machine;
 use crate::numbers::kind_at;
@@ -181,10 +182,12 @@ pub fn run_fresh(
         (value_run machine.now calls body.now item (place_of view.old)) }
     ensures octets { view.new.octets ≡ view.old.octets }
 {
+    if let Some((wanted, size, gets)) = need_and_take(body) {
+        return run_flat(machine.alloc, machine.mint, wanted, size, gets, item, view);
+    }
     let mut draft = fresh(machine.alloc, machine.mint, item)?;
     run_block(machine, calls, body, &mut draft, view)?;
-    let value = settle(machine.alloc, machine.mint, draft)?;
-    Ok(value)
+    Ok(settle(machine.alloc, machine.mint, draft)?)
 }
 
 /// Fills the value that may be there.
@@ -207,12 +210,9 @@ fn run_some(
             Ok(Filling::Done(Value::present(machine.alloc, value)?))
         }
         Filling::Done(value) => Ok(Filling::Done(value)),
-        Filling::Raw(_) => unreachable!(),
-        Filling::Digit(_) => unreachable!(),
-        Filling::Listed(_, _) => unreachable!(),
-        Filling::Lined(_, _) => unreachable!(),
-        Filling::Tagged(_, _) => unreachable!(),
-        Filling::Fields(_) => unreachable!(),
+        Filling::Raw(_) | Filling::Digit(_) => unreachable!(),
+        Filling::Listed(_, _) | Filling::Lined(_, _) => unreachable!(),
+        Filling::Tagged(_, _) | Filling::Fields(_) => unreachable!(),
     }
 }
 

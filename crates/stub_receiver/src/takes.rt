@@ -113,7 +113,7 @@ fn run_word(
 
 /// Whether the octets at an offset are these.
 #[tactic(auto, using(crate::proofs::Within::octets))]
-fn run_const(off: u32, octets: &Octets, view: &RecvView<'_>) -> bool
+pub fn run_const(off: u32, octets: &Octets, view: &RecvView<'_>) -> bool
     requires { off + length octets.now ≤ view.now.near }
     ensures { result
         ≡ same_octets octets.now (take (length octets.now) (drop off (drop view.now.pos view.now.octets))) }

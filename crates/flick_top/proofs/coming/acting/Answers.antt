@@ -10,7 +10,8 @@ use Rattle.flick_top.proofs.Tasking.{is-in}
 use Rattle.flick_top.proofs.coming.acting.Goals as goal
 
 pub returns-in-Serve-clause-items : goal.returns-in-Serve-clause-items
-returns-in-Serve-clause-items g c = over_items c.args.action c.serving.result (subst IsOverItems (sym c.in-Serve.is) tt)
+returns-in-Serve-clause-items g c =
+    over_items (IsOverItems c.args.action) c.serving.result (subst IsOverItems (sym c.in-Serve.is) tt)
 
 pub returns-in_ok-answering-in-Answer-clause-acts : goal.returns-in_ok-answering-in-Answer-clause-acts
 returns-in_ok-answering-in-Answer-clause-acts g c = λ files told.

@@ -1,6 +1,10 @@
+use Rattle.std.proofs.Common.{Some, sym, subst}
+use Rattle.flick_top.specs.declared.command.Command.{Command}
 use Rattle.flick_top.specs.declared.command.Command.TheVariants as commands
+use Rattle.flick_top.specs.Command.{AnswersItems}
 use Rattle.flick_top.specs.File.{plainly}
-use Rattle.flick_top.proofs.OverFiles.{acted-comes, alone-comes, said-comes}
+use Rattle.flick_top.proofs.OverFiles.{acted-comes, alone-comes, bridged-comes, said-comes}
+use Rattle.flick_top.proofs.Reading.{over_items}
 use Rattle.flick_top.proofs.coming.prepare.Goals as goal
 
 pub returns-in-Ok-clause-comes : goal.returns-in-Ok-clause-comes
@@ -31,3 +35,13 @@ returns-in_ok-of_saying-in-Err-clause-comes g c = λ files known.
     said-comes c.args.command c.in-Over.action c.in-Over.named c.args.words.now files c.in_ok-engine-in-Over.field-0 c.in-Err.saying _ _
     c.in-Over.is c.in-Err.is c.in_ok-of_saying-in-Err.ensures.value
     (rw c.word_at-in-Over.ensures at (c.in_ok-engine-in-Over.ensures.reported files known))
+
+pub returns-in-Bridge-clause-comes : goal.returns-in-Bridge-clause-comes
+returns-in-Bridge-clause-comes g c =
+    bridged-comes c.bridging.result c.args.command c.in-Bridge.named c.in-Bridge.to c.args.words.now _ c.word_at-in-Bridge.result.now _
+    c.in-Bridge.is c.word_at-in-Bridge.ensures c.bridging.ensures.bridges
+
+pub returns-in-Bridge-clause-items : goal.returns-in-Bridge-clause-items
+returns-in-Bridge-clause-items g c =
+    over_items (AnswersItems (Some c.args.command)) c.bridging.result
+    (subst (λ (k : Command). AnswersItems (Some k)) (sym c.in-Bridge.is) tt)

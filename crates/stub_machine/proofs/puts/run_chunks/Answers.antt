@@ -3,7 +3,7 @@ use Rattle.mint.specs.declared.value.Value.{Value}
 use Rattle.mint.specs.Values.{all_seen}
 use Rattle.cast_stub.specs.Steps.{over, chunk_steps}
 use Rattle.stub_machine.specs.Run.{state_of, Runs}
-use Rattle.stub_machine.proofs.Running.{items_fit, items_step, left-refl}
+use Rattle.stub_machine.proofs.Running.{items_fit, items_step}
 use Rattle.stub_machine.proofs.puts.run_chunks.Goals as goal
 
 pub run_chunk-requires : goal.run_chunk-requires

@@ -4,13 +4,13 @@ use Rattle.std.proofs.lemmas.Int.{to_z-of_z}
 use Rattle.std.specs.Option.{option_copied}
 use Rattle.mint.specs.Kinds.{IsInRange}
 use Rattle.mint.specs.Types.{type_at}
-use Rattle.mint.specs.Values.{seen, arm}
+use Rattle.mint.specs.Values.{Val, seen, arm}
 use Rattle.wire_def.specs.Arrays.{kind_of}
 use Rattle.cast_stub.specs.RecvBlock.{finish, op_seen, code_seen, cases_seen}
 use Rattle.cast_stub.specs.Draft.{fresh, digit}
 use Rattle.cast_stub.specs.Fill.{fill, fill_case, fill_arm, settled, settled_number}
 use Rattle.cast_stub.specs.Got.{calls_of, sub_at}
-use Rattle.cast_stub.specs.Runs.{Filler, Holds}
+use Rattle.cast_stub.specs.Runs.{Run, Filler, Holds}
 use Rattle.stub_receiver.specs.Drawn.{drawn, array_at}
 use Rattle.stub_receiver.specs.Ran.{place_of, Gave, Ran}
 use Rattle.stub_receiver.proofs.Drafting.{drawn-Digit}
@@ -18,6 +18,7 @@ use Rattle.stub_receiver.specs.Sizes.{code_size}
 use Rattle.stub_receiver.proofs.Sizing.{op-in-code, cases-in-op, called-is-less}
 use Rattle.stub_receiver.proofs.Within.{put_fits, put_again}
 use Rattle.stub_receiver.proofs.Running.{op_holds, op_gives, op_halts, settle_holds, item_holds, item_turn, each_acted, some_acted, switch_acted, part_there, part_holds, part_gives, part_halts, no_arm, arm_given, arm_halts, digit_there, no_digit, digit_is, values_given, numbers_given, number_holds, number_turn, numbers_end, called_is}
+use Rattle.stub_receiver.proofs.Flattening.{flat_is}
 use Rattle.stub_receiver.proofs.run.+run.Goals as goal
 
 pub act-returns-in-Each-clause-done : goal.act-returns-in-Each-clause-done
@@ -160,6 +161,15 @@ run_fresh-settle-requires t c = settle_holds ((fill (calls_of c.args.machine.now
     (fresh (type_at c.args.machine.now.mint.now c.args.item)) (place_of c.args.view.now)) _ _
     (ap (λ d. (fill (calls_of c.args.machine.now.subs.now c.args.calls) (code_seen c.args.body.now)) d (place_of c.args.view.now))
     (sym c.in_ok-draft.ensures) ∙ c.in_ok-run_block.ensures.done) c.requires
+
+pub run_fresh-run_flat-requires : goal.run_fresh-run_flat-requires
+run_fresh-run_flat-requires t c = subst Holds (flat_is c.args.machine.now.mint.now (calls_of c.args.machine.now.subs.now c.args.calls)
+    c.args.body.now c.in-Some.wanted c.in-Some.size c.in-Some.gets.now c.args.item (place_of c.args.view.now) c.in-Some.ensures) c.requires
+
+pub run_fresh-returns-in-Some-clause-done : goal.run_fresh-returns-in-Some-clause-done
+run_fresh-returns-in-Some-clause-done t c = subst (λ (x : Run Val). Gave seen c.run_flat.result (place_of c.run_flat.new.view) x)
+    (sym (flat_is c.args.machine.now.mint.now (calls_of c.args.machine.now.subs.now c.args.calls) c.args.body.now c.in-Some.wanted
+    c.in-Some.size c.in-Some.gets.now c.args.item (place_of c.args.view.now) c.in-Some.ensures)) c.run_flat.ensures.done
 
 pub run_items-run_fresh-requires : goal.run_items-run_fresh-requires
 run_items-run_fresh-requires t c =

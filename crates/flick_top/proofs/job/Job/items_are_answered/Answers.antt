@@ -1,4 +1,4 @@
-use Rattle.flick_top.proofs.Existing.{all_items, over_has, pipe_has, unpipe_has, serve_has}
+use Rattle.flick_top.proofs.Existing.{all_items, over_has, pipe_has, unpipe_has, serve_has, bridge_has}
 use Rattle.flick_top.proofs.job.Job.items_are_answered.Goals as goal
 
 pub returns-in-Over : goal.returns-in-Over
@@ -18,3 +18,9 @@ returns-in-Serve c =
     all_items c.args.self.now
     (serve_has c.args.self.now c.in-Serve.server _ c.in-Serve.is c.engine.ensures c.lines_are_answered-in-Serve.ensures
     c.lines_are_answered-in-Serve-2.ensures)
+
+pub returns-in-Bridge : goal.returns-in-Bridge
+returns-in-Bridge c =
+    all_items c.args.self.now
+    (bridge_has c.args.self.now c.in-Bridge.bridge _ c.in-Bridge.is c.engine-in-Bridge.ensures c.lines_are_answered-in-Bridge.ensures
+    c.lines_are_answered-in-Bridge-2.ensures)

@@ -1,0 +1,4 @@
+pub mod Heads
+pub mod Bridged
+pub mod Once
+pub mod Laws
