@@ -99,7 +99,7 @@ codes_known e (Ok x) p is = ap (λ (t : Task). codes_of t.engine) is
 codes_known e (Err saying) p is = ap (λ (t : Task). codes_of t.engine) is
 
 -- what is prepared of a bridge that was made, or of what is said in its place
-pub prepared_of : (made : Result Bridging NoBridge) → Task
+abbrev pub prepared_of : (made : Result Bridging NoBridge) → Task
 prepared_of (Ok s) = answering_task [] (jobs.Bridge s)
 prepared_of (Err none) = saying_task none.saying none.engine
 
