@@ -25,19 +25,19 @@ pub struct Telling<'a> {
 /// What the words name: `--octets FRONT BACK FILE`, and `--reply OPERATION` or nothing.
 pub fn telling_of(words: &Words) -> Option<Telling<'_>> {
     match words.as_slice() {
-        [option, front, back, path] => telling(option, front, back, path, None),
+        [option, front, back, path] => telling_in(option, front, back, path, None),
         [option, front, back, path, reply, name] => {
             if reply.as_slice() != b"--reply".as_slice() {
                 return None;
             }
-            telling(option, front, back, path, Some(name.as_slice()))
+            telling_in(option, front, back, path, Some(name.as_slice()))
         }
         _ => None,
     }
 }
 
 /// What is told of the messages of the words, where the first is the option.
-fn telling<'a>(
+fn telling_in<'a>(
     option: &Octets,
     front: &Octets,
     back: &Octets,
