@@ -76,7 +76,11 @@ fn over<S: Source, K: Sink>(
 }
 
 /// The file bound to the back end of the run, where it is accepted.
-pub fn binding(alloc: Global, run: &Run<'_>, text: Option<&[u8]>) -> Result<Option<Bound>, NoMemory> {
+pub fn binding(
+    alloc: Global,
+    run: &Run<'_>,
+    text: Option<&[u8]>,
+) -> Result<Option<Bound>, NoMemory> {
     match text {
         Some(text) => match bound_of(alloc, run.front, run.back, text)? {
             Ok(bound) => Ok(Some(bound)),

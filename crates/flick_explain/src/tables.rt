@@ -25,19 +25,19 @@ pub struct Telling<'a> {
 /// What the words name: `--octets FRONT BACK FILE`, and `--reply OPERATION` or nothing.
 pub fn telling_of(words: &Words) -> Option<Telling<'_>> {
     match words.as_slice() {
-        [option, front, back, path] => telling(option, front, back, path, None),
+        [option, front, back, path] => telling_in(option, front, back, path, None),
         [option, front, back, path, reply, name] => {
             if reply.as_slice() != b"--reply".as_slice() {
                 return None;
             }
-            telling(option, front, back, path, Some(name.as_slice()))
+            telling_in(option, front, back, path, Some(name.as_slice()))
         }
         _ => None,
     }
 }
 
 /// What is told of the messages of the words, where the first is the option.
-fn telling<'a>(
+fn telling_in<'a>(
     option: &Octets,
     front: &Octets,
     back: &Octets,
@@ -61,24 +61,29 @@ pub fn tell_all<F: Shelf, S: Source, K: Sink>(
 ) -> Result<(), Ended> {
     let shelved = Shelved::of(alloc, &telling.run, shelf)?;
     let Some(bound) = binding(alloc, &telling.run, shelved.file())? else {
-        return refused(alloc, telling.run.path, "the file is not there or is refused", output);
+        return refused(
+            alloc,
+            telling.run.path,
+            "the file is not there or is refused",
+            output,
+        );
     };
     match telling.reply {
         None => tell_lines(alloc, &bound, None, input, output),
         Some(name) => match reply_named(alloc, &bound, name)? {
             Some(op) => tell_lines(alloc, &bound, Some(op), input, output),
-            None => refused(alloc, name, "no operation with a reply has this name", output),
+            None => refused(
+                alloc,
+                name,
+                "no operation with a reply has this name",
+                output,
+            ),
         },
     }
 }
 
 /// Says why nothing is told.
-fn refused<K: Sink>(
-    alloc: Global,
-    name: &[u8],
-    why: &str,
-    output: &mut K,
-) -> Result<(), Ended> {
+fn refused<K: Sink>(alloc: Global, name: &[u8], why: &str, output: &mut K) -> Result<(), Ended> {
     let line = refusal_line(alloc, name, why)?;
     write(output, line.as_bytes())?;
     Err(Ended::Refused)
@@ -162,7 +167,10 @@ fn message_text(
     let table = table_of(alloc, bound, op, message)?;
     let name = operation_of(alloc, bound, &table)?;
     let text = print_table(alloc, &table, message)?;
-    Ok(format!(in alloc; "message {number}: {name}{} octets\n{text}\n", message.len())?)
+    Ok(format!(in alloc;
+        "message {number}: {name}{} octets\n{text}\n",
+        message.len()
+    )?)
 }
 
 /// The table of a message, as a request or as a reply to an operation.
