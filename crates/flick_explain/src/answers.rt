@@ -6,7 +6,6 @@ use crate::fronts::bound_of;
 use crate::inputs::Inputs;
 use crate::known::Known;
 use crate::shelved::Shelved;
-use crate::tables::{tell_all, telling_of};
 use kit_base::limits::{LONGEST_LINE, MOST_INPUT};
 use kit_base::{LineErr, Lines, NoMemory, Shelf, Sink, Source, Words, write_whole};
 use pres::Bound;
@@ -17,12 +16,10 @@ const USAGE: &[u8] = b"usage: flick_explain COMMAND FRONT BACK FILE [--lines INP
 \x20      flick_explain serve FRONT BACK FILE REPLIES [--lines INPUT]\n\
 \x20      flick_explain show FRONT FILE\n\
 \x20      flick_explain make FRONT BACK FILE NUMBER N\n\
-\x20      flick_explain --octets FRONT BACK FILE [--reply OPERATION]\n\
 \n\
 The words before --lines are those of a run of flick. Standard input is what the run wrote.\n\
 For each line that begins with `?` or `!` it says where and why.\n\
-INPUT is the file that the run read; with it each `!` is said of its line.\n\
-With --octets standard input has messages in hexadecimal digits, and it writes what each octet is.\n";
+INPUT is the file that the run read; with it each `!` is said of its line.\n";
 
 /// Says of each refusal of a run where and why, and answers a status.
 pub fn explain<F: Shelf, S: Source, K: Sink>(
@@ -45,9 +42,6 @@ fn explained<F: Shelf, S: Source, K: Sink>(
     input: &mut S,
     output: &mut K,
 ) -> Result<(), Ended> {
-    if let Some(telling) = telling_of(words) {
-        return tell_all(alloc, &telling, shelf, input, output);
-    }
     let Some(run) = run_of(words) else {
         write(output, USAGE)?;
         return Err(Ended::Usage);
@@ -76,11 +70,7 @@ fn over<S: Source, K: Sink>(
 }
 
 /// The file bound to the back end of the run, where it is accepted.
-pub fn binding(
-    alloc: Global,
-    run: &Run<'_>,
-    text: Option<&[u8]>,
-) -> Result<Option<Bound>, NoMemory> {
+fn binding(alloc: Global, run: &Run<'_>, text: Option<&[u8]>) -> Result<Option<Bound>, NoMemory> {
     match text {
         Some(text) => match bound_of(alloc, run.front, run.back, text)? {
             Ok(bound) => Ok(Some(bound)),
@@ -91,7 +81,7 @@ pub fn binding(
 }
 
 /// Writes what is said.
-pub fn write<K: Sink>(output: &mut K, text: &[u8]) -> Result<(), Ended> {
+fn write<K: Sink>(output: &mut K, text: &[u8]) -> Result<(), Ended> {
     match write_whole(output, text) {
         Ok(()) => Ok(()),
         Err(_) => Err(Ended::Sink),

@@ -32,7 +32,6 @@ mod scalars;
 mod shelved;
 mod statements;
 mod syntax;
-mod tables;
 mod text;
 mod tokens;
 mod unreplies;
