@@ -32,7 +32,7 @@ pub mod Front
 pub mod UnitsOfFronts
 -- A file says one thing; over a back end it comes to one saying, or to engines that answer alike, with the same codes where these are
 pub mod FilesSay
--- What a file comes to with messages of two formats: engines of one unit, or what is said instead
+-- * What a file comes to with messages of two formats: engines of one unit, or what is said instead
 pub mod Bridging
 -- Texts are the same over engines that answer alike, by induction on the operations or on the number of messages
 pub mod TwinTexts

@@ -1,4 +1,4 @@
 -- The proofs, each after those that it uses; * marks those that the proofs of functions use.
 
--- * A number that is found among cases has a case, by induction on the cases
+-- * A number that is found among cases has a case
 pub mod CasesFound

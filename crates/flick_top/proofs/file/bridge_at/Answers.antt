@@ -11,4 +11,5 @@ returns-in_ok-bridge_of-in-Ok-clause-bridges g c = λ files reported.
 
 pub returns-in-Err-Absent-clause-bridges : goal.returns-in-Err-Absent-clause-bridges
 returns-in-Err-Absent-clause-bridges g c = λ files reported.
-    bridge-absent c.args.named.now c.args.to _ files c.args.path.now (c.in-Err-Absent.ensures.absent (ap Err c.in-Err-Absent.field-0-is)) reported
+    bridge-absent c.args.named.now c.args.to _ files c.args.path.now
+    (c.in-Err-Absent.ensures.absent (ap Err c.in-Err-Absent.field-0-is)) reported
