@@ -3,12 +3,12 @@ use Rattle.std.proofs.Common.{◌≡◌, ℕ, ◌+◌, ◌<◌, ◌≤◌, Bool,
 use Rattle.std.specs.Prelude.{nat_le, MatchBool, Option, Some, Err}
 use Rattle.std.proofs.lemmas.List.{take_all, length-take-le}
 use Rattle.std.proofs.lemmas.Bool.Decides.{nat_tests}
-use Rattle.kit_base.specs.Limits.{longest_file}
+use Rattle.kit_base.specs.Limits.{longest_file, longest_replies}
 use Rattle.kit_base.specs.Memory.{HasFile}
 use Rattle.stub_codes.specs.Stubs.{Coded}
 use Rattle.idl_lex.specs.declared.kinds.Front.{Front}
 use Rattle.flick_top.specs.declared.saying.Saying.TheVariants.{TooLarge, LargeReplies}
-use Rattle.flick_top.specs.File.{FileSays, longest_replies}
+use Rattle.flick_top.specs.File.{FileSays}
 use Rattle.flick_top.specs.Fronts.{Read, UnitOf}
 use Rattle.flick_top.specs.Coming.{Files, ServesText, ServesFile}
 use Rattle.flick_top.specs.Task.{Task, saying_task}

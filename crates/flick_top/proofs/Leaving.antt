@@ -1,6 +1,7 @@
 -- The engine that a command leaves of its file.
 use Rattle.std.proofs.Common.{◌≡◌, inl, inr, ℕ, List, length, Bool, true, false, Option, Some, None, Result, Ok, Err, refl, sym, ap, ◌∙◌, subst}
 use Rattle.std.specs.Prelude.{nat_le, MatchBool, IfSome, IsSomeAnd, IsOkAnd}
+use Rattle.kit_base.specs.Limits.{longest_replies}
 use Rattle.aoi.specs.Plain.{PlainUnit}
 use Rattle.pres.specs.declared.errors.BindErr.{BindErr}
 use Rattle.pres.specs.Faults.{bind_fault}
@@ -15,7 +16,7 @@ use Rattle.flick_top.specs.declared.command.Command.{Command}
 use Rattle.flick_top.specs.declared.command.Command.TheVariants as commands
 use Rattle.flick_top.specs.declared.saying.Saying.TheVariants.{LargeReplies}
 use Rattle.flick_top.specs.Command.{command_of, word_at}
-use Rattle.flick_top.specs.File.{Reported, IsOf, BindSays, BoundSays, longest_replies}
+use Rattle.flick_top.specs.File.{Reported, IsOf, BindSays, BoundSays}
 use Rattle.flick_top.specs.Fronts.{Read}
 use Rattle.flick_top.specs.Coming.{Files, serving_task, ServesText, ServesFile, Acts, ActsOver, bridging_task, Bridges, Comes}
 use Rattle.flick_top.specs.Laws.{BoundFilesLeaveEngines}

@@ -4,6 +4,7 @@ use Rattle.std.specs.Prelude.{codes, nat_le, MatchBool, if◌then◌else◌}
 use Rattle.hex.specs.Hex.{decode_of, encode_lower}
 use Rattle.kit_base.specs.declared.lines.Line.{Line}
 use Rattle.kit_base.specs.declared.lines.Line.TheVariants.{Text, Long, End}
+use Rattle.kit_base.specs.Limits.{longest_replies}
 use Rattle.wire_def.specs.declared.encoding.Back.{Back}
 use Rattle.wire_frames.specs.declared.messages.Part.{Part}
 use Rattle.wire_frames.specs.declared.messages.Part.TheVariants as part
@@ -41,7 +42,7 @@ use Rattle.flick_top.specs.declared.items.Item.TheVariants as items
 use Rattle.flick_top.specs.Answer.{Answer, answer_by, answer_of, engine_in, frame_of, is_refusal, written_of, Answering, IsTextTo, IsLineAnswer, IsPartLine, IsAnswer, answers, refuses, cutting_of}
 use Rattle.flick_top.specs.Coming.{Files, showing_task, text_before, serving_task, ServesText, ServesFile, Acts, ActsOver, IsSecond, bridging_task, Bridges, Comes, AreAnswered}
 use Rattle.flick_top.specs.Command.{command_of, word_at}
-use Rattle.flick_top.specs.File.{Reported, BoundSays, codes_in, longest_replies}
+use Rattle.flick_top.specs.File.{Reported, BoundSays, codes_in}
 use Rattle.flick_top.specs.Fronts.{Read}
 use Rattle.flick_top.specs.Items.{Cutting, by_frames}
 use Rattle.flick_top.specs.Laws.{IsOverCodes, ShowsCodes, OneOutput}

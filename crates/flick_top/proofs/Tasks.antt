@@ -1,7 +1,7 @@
 -- All words and files have a task.
 use Rattle.std.proofs.Common.{◌≡◌, ℕ, Bool, true, false, List, [], length, Option, Some, None, Ok, Err, refl}
 use Rattle.std.specs.Prelude.{nat_le, MatchBool}
-use Rattle.kit_base.specs.Limits.{longest_file}
+use Rattle.kit_base.specs.Limits.{longest_file, longest_replies}
 use Rattle.idl_lex.specs.declared.kinds.Front.{Front}
 use Rattle.aoi.specs.Plain.{PlainUnit, IsSoundPlain}
 use Rattle.pres.specs.declared.errors.BindErr.{BindErr}
@@ -22,7 +22,7 @@ use Rattle.flick_top.specs.declared.command.Command.TheVariants as commands
 use Rattle.flick_top.specs.declared.job.Job.TheVariants as jobs
 use Rattle.flick_top.specs.declared.saying.Saying.TheVariants as sayings
 use Rattle.flick_top.specs.Command.{command_of, word_at}
-use Rattle.flick_top.specs.File.{Reported, BindSays, BoundSays, FileSays, codes_in, longest_replies}
+use Rattle.flick_top.specs.File.{Reported, BindSays, BoundSays, FileSays, codes_in}
 use Rattle.flick_top.specs.Fronts.{Read, UnitOf}
 use Rattle.flick_top.specs.Laws.{WordsHaveTasks}
 use Rattle.flick_top.specs.Coming.{Files, showing_task, text_before, serving_task, ServesText, ServesFile, Acts, ActsOver, bridging_task, Bridges, Comes}

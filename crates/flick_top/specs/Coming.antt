@@ -1,5 +1,6 @@
 -- What a command comes to over the files.
 use Rattle.std.specs.Prelude.{◌≡◌, ℕ, List, [], length, nat_le, MatchBool, Option, Some, None, Result, Ok, Err}
+use Rattle.kit_base.specs.Limits.{longest_replies}
 use Rattle.stub_codes.specs.declared.stub.Stub.{Stub}
 use Rattle.stub_codes.specs.Stubs.{Coded}
 use Rattle.idl_lex.specs.declared.kinds.Front.{Front}
@@ -22,7 +23,7 @@ use Rattle.flick_top.specs.declared.job.Job.TheVariants as jobs
 use Rattle.flick_top.specs.declared.saying.Saying.TheVariants as sayings
 use Rattle.flick_top.specs.Answer.{Answering, IsAnswering}
 use Rattle.flick_top.specs.Command.{command_of, word_at}
-use Rattle.flick_top.specs.File.{Reported, FileSays, BoundSays, codes_in, longest_replies}
+use Rattle.flick_top.specs.File.{Reported, FileSays, BoundSays, codes_in}
 use Rattle.flick_top.specs.Fronts.{Read}
 use Rattle.flick_top.specs.Task.{Task, saying_task, writing_task, answering_task, shapeless_task}
 use Rattle.flick_top.specs.declared.job.Job.{Job}

@@ -18,10 +18,6 @@ use Rattle.flick_top.specs.declared.saying.Saying.{Saying}
 use Rattle.flick_top.specs.declared.saying.Saying.TheVariants.{NoFile, TooLarge, Bind}
 use Rattle.flick_top.specs.Fronts.{Read, UnitOf}
 
--- the octets of the longest file of replies
-abbrev pub longest_replies : ℕ
-longest_replies = 8388608
-
 -- what the content of a file says, where there is the file
 abbrev pub FileSays : Front → Option (List ℕ) → Read → Type 0
 FileSays front None read = read ≡ Err NoFile

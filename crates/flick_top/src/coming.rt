@@ -20,15 +20,13 @@ use flick_engine::{Engine, Wire};
 use flick_lines::Verb;
 use flick_serve::{Server, WrongReplies};
 use flick_texts::{counted_text, make_text, show_text, stubs_text};
+use kit_base::limits::LONGEST_REPLIES;
 use kit_base::{NoMemory, Octets, Shelf, ShelfErr, Words};
 use raw_buf::SendBuf;
 use std::alloc::Global;
 
 /// The place of the file's word where no back end is named.
 const SHOWN: usize = 2;
-
-/// The octets of the longest file of replies.
-const LONGEST_REPLIES: u32 = 8_388_608;
 
 /// What is left to do of a command, once its files are read.
 pub fn prepare<F: Shelf>(
