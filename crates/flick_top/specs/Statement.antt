@@ -6,7 +6,7 @@ use Rattle.raw_buf.specs.Buf.{Buf}
 use Rattle.stub_codes.specs.Stubs.{Coded, IsCoded}
 use Rattle.flick_lines.specs.Sent.{IsSpentBy}
 use Rattle.flick_top.specs.Answer.{Answering}
-use Rattle.flick_top.specs.Coming.{Files, Does}
+use Rattle.flick_top.specs.Dispatch.{Files, Does}
 use Rattle.flick_top.specs.Command.{command_of, AnswersItems, ReadsFiles}
 use Rattle.flick_top.specs.Made.{codes_of}
 use Rattle.flick_top.specs.Outside.{Input, Held, Fails}

@@ -7,7 +7,7 @@ use wire_def::{Encoding, Head};
 
 /// What a call names.
 #[derive(Clone, Copy, Debug, PartialEq, Eq)]
-pub enum Naming {
+pub enum CallTarget {
     /// An operation by its number among those of the binding, from 0.
     Operation(u32),
     /// There is no such interface.
@@ -17,20 +17,20 @@ pub enum Naming {
 }
 
 /// What is named by an operation's place, where there is one.
-pub fn operation_at(place: Option<u32>) -> Naming
+pub fn operation_at(place: Option<u32>) -> CallTarget
     ensures { result ≡ operation_at place }
 {
     match place {
-        Some(op) => Naming::Operation(op),
-        None => Naming::NoOperation,
+        Some(op) => CallTarget::Operation(op),
+        None => CallTarget::NoOperation,
     }
 }
 
 /// What the head of a message says of its call. The body follows the head.
 #[derive(Clone, Copy, Debug, PartialEq, Eq)]
-pub struct Called {
+pub struct CallHead {
     /// What the call names.
-    pub naming: Naming,
+    pub naming: CallTarget,
     /// The fields that back ends share.
     pub head: Head,
     /// How the body is laid out.

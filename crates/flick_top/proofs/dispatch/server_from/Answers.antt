@@ -3,7 +3,7 @@ use Rattle.flick_serve.specs.Served.{AgreesWith}
 use Rattle.flick_top.specs.declared.job.Job.TheVariants as jobs
 use Rattle.flick_top.specs.Task.{answering_task, task_in}
 use Rattle.flick_top.proofs.Servers.{by_server}
-use Rattle.flick_top.proofs.coming.served.Goals as goal
+use Rattle.flick_top.proofs.dispatch.server_from.Goals as goal
 
 pub returns-in-Ok-clause-serves : goal.returns-in-Ok-clause-serves
 returns-in-Ok-clause-serves c =

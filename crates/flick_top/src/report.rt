@@ -1,7 +1,7 @@
 //! What is said in place of answers.
 
 ghost use Rattle.std.specs.Prelude.{◌≡◌, IfOk, string_bytes};
-ghost use Rattle.flick_top.specs.Saying.{said, ending, lex_name, place_of, name_name, bind_name};
+ghost use Rattle.flick_top.specs.Report.{report_text, report_status, lex_name, place_of, name_name, bind_name};
 
 use crate::status::Status;
 use aoi::{NameErr, NameFault};
@@ -74,7 +74,7 @@ pub const VERSION: &[u8] = b"flick 0.1.0\n";
 
 /// What is said in place of answers.
 #[derive(Clone, Copy, Debug, PartialEq, Eq)]
-pub enum Saying {
+pub enum Report {
     /// The page of usage.
     Help,
     /// The line with name and version.
@@ -99,29 +99,29 @@ pub enum Saying {
     WrongReply(usize),
 }
 
-impl Saying {
+impl Report {
     /// What is written.
     pub fn octets(self, alloc: Global) -> Result<Octets, NoMemory>
-        ensures { IfOk result (λ o. o ≡ said self) }
+        ensures { IfOk result (λ o. o ≡ report_text self) }
     {
         match self {
-            Saying::Help => copied(alloc, USAGE),
-            Saying::Version => copied(alloc, VERSION),
-            Saying::NoFile => copied(alloc, b"? file\n"),
-            Saying::TooLarge => copied(alloc, b"? size\n"),
-            Saying::Lex(fault) => copied(alloc, lex_text(alloc, fault)?.as_bytes()),
-            Saying::Syntax(line) => copied(
+            Report::Help => copied(alloc, USAGE),
+            Report::Version => copied(alloc, VERSION),
+            Report::NoFile => copied(alloc, b"? file\n"),
+            Report::TooLarge => copied(alloc, b"? size\n"),
+            Report::Lex(fault) => copied(alloc, lex_text(alloc, fault)?.as_bytes()),
+            Report::Syntax(line) => copied(
                 alloc,
                 format!(in alloc; "? syntax {line}\n")?.as_bytes(),
             ),
-            Saying::Name(fault) => copied(alloc, name_text(alloc, fault)?.as_bytes()),
-            Saying::Bind(reason) => copied(
+            Report::Name(fault) => copied(alloc, name_text(alloc, fault)?.as_bytes()),
+            Report::Bind(reason) => copied(
                 alloc,
                 format!(in alloc; "? bind {}\n", bind_name(reason))?.as_bytes(),
             ),
-            Saying::NoReplies => copied(alloc, b"? replies file\n"),
-            Saying::LargeReplies => copied(alloc, b"? replies size\n"),
-            Saying::WrongReply(line) => copied(
+            Report::NoReplies => copied(alloc, b"? replies file\n"),
+            Report::LargeReplies => copied(alloc, b"? replies size\n"),
+            Report::WrongReply(line) => copied(
                 alloc,
                 format!(in alloc; "? replies {line}\n")?.as_bytes(),
             ),
@@ -130,33 +130,33 @@ impl Saying {
 
     /// How a call ends that says it.
     pub fn status(self) -> Status
-        ensures { result ≡ ending self }
+        ensures { result ≡ report_status self }
     {
         match self {
-            Saying::Help | Saying::Version => Status::Done,
-            Saying::NoFile
-            | Saying::TooLarge
-            | Saying::Lex(_)
-            | Saying::Syntax(_)
-            | Saying::Name(_)
-            | Saying::Bind(_)
-            | Saying::NoReplies
-            | Saying::LargeReplies
-            | Saying::WrongReply(_) => Status::File,
+            Report::Help | Report::Version => Status::Done,
+            Report::NoFile
+            | Report::TooLarge
+            | Report::Lex(_)
+            | Report::Syntax(_)
+            | Report::Name(_)
+            | Report::Bind(_)
+            | Report::NoReplies
+            | Report::LargeReplies
+            | Report::WrongReply(_) => Status::File,
         }
     }
 }
 
 /// The line of a fault of a text.
 fn lex_text(alloc: Global, fault: LexErr) -> Result<String, NoMemory>
-    ensures { IfOk result (λ s. string_bytes s ≡ said (Saying.Lex fault)) }
+    ensures { IfOk result (λ s. string_bytes s ≡ report_text (Report.Lex fault)) }
 {
     Ok(format!(in alloc; "? lex {} {}\n", lex_name(fault), place_of(fault))?)
 }
 
 /// The line of a name that is not resolved.
 fn name_text(alloc: Global, error: NameErr) -> Result<String, NoMemory>
-    ensures { IfOk result (λ s. string_bytes s ≡ said (Saying.Name error)) }
+    ensures { IfOk result (λ s. string_bytes s ≡ report_text (Report.Name error)) }
 {
     Ok(format!(in alloc; "? name {} {}\n", name_name(error.fault), error.decl)?)
 }

@@ -1,17 +1,17 @@
 use Rattle.std.proofs.Common.{ℕ, List, [], Some, sym, ap, ◌∙◌, subst}
 use Rattle.flick_top.specs.declared.command.Action.{Action}
-use Rattle.flick_top.specs.Coming.{Acts}
+use Rattle.flick_top.specs.Dispatch.{Acts}
 use Rattle.flick_top.specs.Command.{IsOverItems}
 use Rattle.flick_top.specs.declared.job.Job.TheVariants as jobs
 use Rattle.flick_top.specs.Task.{answering_task, task_in, writing_task}
 use Rattle.flick_top.proofs.OverFiles.{served-acts, made-acts}
 use Rattle.flick_top.proofs.Reading.{over_items}
 use Rattle.flick_top.proofs.Tasking.{is-in}
-use Rattle.flick_top.proofs.coming.acting.Goals as goal
+use Rattle.flick_top.proofs.dispatch.run_action.Goals as goal
 
 pub returns-in-Serve-clause-items : goal.returns-in-Serve-clause-items
 returns-in-Serve-clause-items g c =
-    over_items (IsOverItems c.args.action) c.serving.result (subst IsOverItems (sym c.in-Serve.is) tt)
+    over_items (IsOverItems c.args.action) c.serve_file.result (subst IsOverItems (sym c.in-Serve.is) tt)
 
 pub returns-in_ok-answering-in-Answer-clause-acts : goal.returns-in_ok-answering-in-Answer-clause-acts
 returns-in_ok-answering-in-Answer-clause-acts g c = λ files told.
@@ -36,8 +36,8 @@ returns-in-Unpipe-clause-acts g c = λ files told.
 
 pub returns-in-Serve-clause-acts : goal.returns-in-Serve-clause-acts
 returns-in-Serve-clause-acts g c =
-    served-acts c.serving.result c.args.action c.in-Serve.replies c.args.engine c.args.words.now _ c.word_at.result.now _ c.in-Serve.is
-    c.word_at.ensures c.serving.ensures.serves
+    served-acts c.serve_file.result c.args.action c.in-Serve.replies c.args.engine c.args.words.now _ c.word_at.result.now _ c.in-Serve.is
+    c.word_at.ensures c.serve_file.ensures.serves
 
 pub returns-in_ok-text-in-Stubs-clause-acts : goal.returns-in_ok-text-in-Stubs-clause-acts
 returns-in_ok-text-in-Stubs-clause-acts g c = λ files told.

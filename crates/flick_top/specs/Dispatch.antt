@@ -20,12 +20,12 @@ use Rattle.flick_top.specs.declared.command.Command.TheVariants as commands
 use Rattle.flick_top.specs.declared.command.Named.{Named}
 use Rattle.flick_top.specs.declared.file.NoBridge.{NoBridge}
 use Rattle.flick_top.specs.declared.job.Job.TheVariants as jobs
-use Rattle.flick_top.specs.declared.saying.Saying.TheVariants as sayings
+use Rattle.flick_top.specs.declared.report.Report.TheVariants as reports
 use Rattle.flick_top.specs.Answer.{Answering, IsAnswering}
 use Rattle.flick_top.specs.Command.{command_of, word_at}
 use Rattle.flick_top.specs.File.{Reported, FileSays, BoundSays, codes_in}
 use Rattle.flick_top.specs.Fronts.{Read}
-use Rattle.flick_top.specs.Task.{Task, saying_task, writing_task, answering_task, shapeless_task}
+use Rattle.flick_top.specs.Task.{Task, report_task, writing_task, answering_task, usage_task}
 use Rattle.flick_top.specs.declared.job.Job.{Job}
 
 -- files by their paths
@@ -40,7 +40,7 @@ text_before _ e = []
 -- to serve by the replies that a file gives, or to say which of its lines is wrong
 abbrev pub serving_task : Coded → List ℕ → Result Given ℕ → Task
 serving_task e text (Ok g) = answering_task [] (jobs.Serve (record { coded = e; text = text }))
-serving_task e text (Err line) = saying_task (sayings.WrongReply line) (Some e)
+serving_task e text (Err line) = report_task (reports.WrongReply line) (Some e)
 
 -- what `serve` comes to over an engine and the text of a file of replies
 abbrev pub ServesText : Coded → List ℕ → Task → Type 0
@@ -48,9 +48,9 @@ ServesText e text task = (x : Result Given ℕ) × FileGives e.binding text x ×
 
 -- the same over the content of the file, where there is the file
 abbrev pub ServesFile : Coded → Option (List ℕ) → Task → Type 0
-ServesFile e None task = task ≡ saying_task sayings.NoReplies (Some e)
+ServesFile e None task = task ≡ report_task reports.NoReplies (Some e)
 ServesFile e (Some text) task =
-    MatchBool (nat_le (length text) longest_replies) (ServesText e text task) (task ≡ saying_task sayings.LargeReplies (Some e))
+    MatchBool (nat_le (length text) longest_replies) (ServesText e text task) (task ≡ report_task reports.LargeReplies (Some e))
 
 -- what an action comes to over an engine: to answer items by a verb, or by the replies of a second file, or to write a text
 abbrev pub Acts : Action → Coded → List (List ℕ) → Files → Task → Type 0
@@ -65,7 +65,7 @@ Acts (actions.Make number many) e words files task =
 -- the same over what was made, or is said instead
 abbrev pub ActsOver : Action → Reported → List (List ℕ) → Files → Task → Type 0
 ActsOver action (Ok e) words files task = Acts action e words files task
-ActsOver action (Err saying) words files task = task ≡ saying_task saying None
+ActsOver action (Err report) words files task = task ≡ report_task report None
 
 -- what the content of a file comes to by a front end and with messages of a format, where an engine has these codes
 abbrev pub IsMadeIn : List Stub → Front → Wire → Option (List ℕ) → Reported → Type 0
@@ -82,12 +82,12 @@ IsSecond e to second = BoundSays (codes_in second) to (Ok e.binding.unit) second
 -- to bridge from the messages of an engine to those of a second one, or to say why there is none
 abbrev pub bridging_task : Coded → Reported → Task
 bridging_task e (Ok second) = answering_task [] (jobs.Bridge (record { from = e; to = second }))
-bridging_task e (Err saying) = saying_task saying (Some e)
+bridging_task e (Err report) = report_task report (Some e)
 
 -- what `bridge` to a second format comes to over what was made for the first one, or is said instead
 abbrev pub Bridges : Wire → Reported → Task → Type 0
 Bridges to (Ok e) task = (second : Reported) × IsSecond e to second × (task ≡ bridging_task e second)
-Bridges to (Err saying) task = task ≡ saying_task saying None
+Bridges to (Err report) task = task ≡ report_task report None
 
 -- the same over the content of the file, where an engine has these codes
 abbrev pub BridgesFile : List Stub → Named → Wire → Option (List ℕ) → Task → Type 0
@@ -96,12 +96,12 @@ BridgesFile codes n to content task = (reported : Reported) × IsMadeOf codes n 
 -- the bridge from an engine to a second one, or what is said in its place
 abbrev pub bridge_of : Coded → Reported → Result Bridging NoBridge
 bridge_of e (Ok second) = Ok (record { from = e; to = second })
-bridge_of e (Err saying) = Err (record { saying = saying; engine = Some e })
+bridge_of e (Err report) = Err (record { report = report; engine = Some e })
 
 -- the bridge to a second format over what was made for the first one, or what is said in its place
 abbrev pub IsBridge : Wire → Reported → Result Bridging NoBridge → Type 0
 IsBridge to (Ok e) made = (second : Reported) × IsSecond e to second × (made ≡ bridge_of e second)
-IsBridge to (Err saying) made = made ≡ Err (record { saying = saying; engine = None })
+IsBridge to (Err report) made = made ≡ Err (record { report = report; engine = None })
 
 -- the same over the content of the file
 abbrev pub IsBridgeOf : Named → Wire → Option (List ℕ) → Result Bridging NoBridge → Type 0
@@ -110,22 +110,22 @@ IsBridgeOf n to content made = (reported : Reported) × IsMadeOf (codes_in repor
 -- to write the text of a unit that was read, or what is said instead
 abbrev pub showing_task : Read → Task
 showing_task (Ok u) = writing_task (show_text u) [] None
-showing_task (Err saying) = saying_task saying None
+showing_task (Err report) = report_task report None
 
 -- a task is what a command comes to, where an engine has these codes
-abbrev pub Comes : List Stub → Option Command → List (List ℕ) → Files → Task → Type 0
-Comes codes None words files task = task ≡ shapeless_task
-Comes codes (Some commands.Help) words files task = task ≡ saying_task sayings.Help None
-Comes codes (Some commands.Version) words files task = task ≡ saying_task sayings.Version None
-Comes codes (Some (commands.Show front)) words files task =
+abbrev pub TaskOf : List Stub → Option Command → List (List ℕ) → Files → Task → Type 0
+TaskOf codes None words files task = task ≡ usage_task
+TaskOf codes (Some commands.Help) words files task = task ≡ report_task reports.Help None
+TaskOf codes (Some commands.Version) words files task = task ≡ report_task reports.Version None
+TaskOf codes (Some (commands.Show front)) words files task =
     (read : Read) × FileSays front (files (word_at words 2)) read × (task ≡ showing_task read)
-Comes codes (Some (commands.Over action n)) words files task =
+TaskOf codes (Some (commands.Over action n)) words files task =
     (reported : Reported) × IsMadeOf codes n (files (word_at words n.file)) reported × ActsOver action reported words files task
-Comes codes (Some (commands.Bridge n to)) words files task = BridgesFile codes n to (files (word_at words n.file)) task
+TaskOf codes (Some (commands.Bridge n to)) words files task = BridgesFile codes n to (files (word_at words n.file)) task
 
 -- the words come to this task over these files
 abbrev pub IsTask : List Stub → List (List ℕ) → Files → Task → Type 0
-IsTask codes words files task = Comes codes (command_of words) words files task
+IsTask codes words files task = TaskOf codes (command_of words) words files task
 
 -- the answers to the items, where items are answered
 abbrev pub AreAnswered : Option Job → Answering → Type 0

@@ -6,9 +6,9 @@ use Rattle.pres.specs.declared.errors.BindErr.{BindErr}
 use Rattle.pres.specs.declared.errors.BindErr.TheVariants as bind
 use Rattle.aoi.specs.declared.faults.NameFault.{NameFault}
 use Rattle.aoi.specs.declared.faults.NameFault.TheVariants as name
-use Rattle.flick_top.specs.declared.saying.TheConstants.{USAGE, VERSION}
-use Rattle.flick_top.specs.declared.saying.Saying.{Saying}
-use Rattle.flick_top.specs.declared.saying.Saying.TheVariants.{Help, Version, NoFile, TooLarge, Lex, Syntax, Name, Bind, NoReplies, LargeReplies, WrongReply}
+use Rattle.flick_top.specs.declared.report.TheConstants.{USAGE, VERSION}
+use Rattle.flick_top.specs.declared.report.Report.{Report}
+use Rattle.flick_top.specs.declared.report.Report.TheVariants.{Help, Version, NoFile, TooLarge, Lex, Syntax, Name, Bind, NoReplies, LargeReplies, WrongReply}
 use Rattle.flick_top.specs.declared.status.Status.{Status}
 use Rattle.flick_top.specs.declared.status.Status.TheVariants.{Done, File}
 
@@ -52,29 +52,29 @@ bind_name bind.Wide = codes "Wide"
 bind_name bind.NoMemory = codes "NoMemory"
 
 -- what is written
-abbrev pub said : Saying → List ℕ
-said Help = USAGE.now
-said Version = VERSION.now
-said NoFile = codes "? file\n"
-said TooLarge = codes "? size\n"
-said (Lex fault) = codes "? lex " ++ lex_name fault ++ codes " " ++ decimal (place_of fault) ++ codes "\n"
-said (Syntax line) = codes "? syntax " ++ decimal line ++ codes "\n"
-said (Name error) = codes "? name " ++ name_name error.fault ++ codes " " ++ decimal error.decl ++ codes "\n"
-said (Bind reason) = codes "? bind " ++ bind_name reason ++ codes "\n"
-said NoReplies = codes "? replies file\n"
-said LargeReplies = codes "? replies size\n"
-said (WrongReply line) = codes "? replies " ++ decimal line ++ codes "\n"
+abbrev pub report_text : Report → List ℕ
+report_text Help = USAGE.now
+report_text Version = VERSION.now
+report_text NoFile = codes "? file\n"
+report_text TooLarge = codes "? size\n"
+report_text (Lex fault) = codes "? lex " ++ lex_name fault ++ codes " " ++ decimal (place_of fault) ++ codes "\n"
+report_text (Syntax line) = codes "? syntax " ++ decimal line ++ codes "\n"
+report_text (Name error) = codes "? name " ++ name_name error.fault ++ codes " " ++ decimal error.decl ++ codes "\n"
+report_text (Bind reason) = codes "? bind " ++ bind_name reason ++ codes "\n"
+report_text NoReplies = codes "? replies file\n"
+report_text LargeReplies = codes "? replies size\n"
+report_text (WrongReply line) = codes "? replies " ++ decimal line ++ codes "\n"
 
 -- how a call ends that says it
-abbrev pub ending : Saying → Status
-ending Help = Done
-ending Version = Done
-ending NoFile = File
-ending TooLarge = File
-ending (Lex fault) = File
-ending (Syntax line) = File
-ending (Name error) = File
-ending (Bind reason) = File
-ending NoReplies = File
-ending LargeReplies = File
-ending (WrongReply line) = File
+abbrev pub report_status : Report → Status
+report_status Help = Done
+report_status Version = Done
+report_status NoFile = File
+report_status TooLarge = File
+report_status (Lex fault) = File
+report_status (Syntax line) = File
+report_status (Name error) = File
+report_status (Bind reason) = File
+report_status NoReplies = File
+report_status LargeReplies = File
+report_status (WrongReply line) = File

@@ -1,10 +1,10 @@
 use Rattle.std.proofs.Common.{◌+◌, take}
 use Rattle.pres.specs.Faces.{faces, face_at}
 use Rattle.json_shape.proofs.UsualReading.{ItemRead, MemberRead, Paired, PartRead}
-use Rattle.json_shape.proofs.usual.+scan.Given as goal
+use Rattle.json_shape.proofs.usual.+read_direct.Given as goal
 
-abbrev pub decreases-scan : goal.decreases-scan
-decreases-scan l = l.id + l.id + l.id + l.id + 4
+abbrev pub decreases-read_direct : goal.decreases-read_direct
+decreases-read_direct l = l.id + l.id + l.id + l.id + 4
 
 abbrev pub decreases-group : goal.decreases-group
 decreases-group l = l.id + l.id + l.id + l.id + 3

@@ -3,7 +3,7 @@
 ghost use Rattle.std.specs.Prelude.{◌≡◌, ◌≢◌, ◌≤◌, [], Ok, Some, IfOk, IfErr, IfSome};
 ghost use Rattle.kit_base.specs.Causes.{Rose};
 ghost use Rattle.raw_buf.specs.Buf.{NoneFell};
-ghost use Rattle.flick_top.specs.Coming.{Files, BridgesFile, ServesFile, ServesText, showing_task, text_before};
+ghost use Rattle.flick_top.specs.Dispatch.{Files, BridgesFile, ServesFile, ServesText, showing_task, text_before};
 ghost use Rattle.flick_top.specs.Command.{AnswersItems, IsOverItems, ReadsFiles};
 ghost use Rattle.flick_top.specs.File.{plainly};
 ghost use Rattle.flick_top.specs.Made.{HasCodes, codes_of};
@@ -14,7 +14,7 @@ use crate::command::{Action, Command, Named, word_at};
 use crate::file::{NoBridge, TaskErr, bridge_at, engine_at, unit_at};
 use crate::job::Job;
 use crate::prepared::Prepared;
-use crate::saying::Saying;
+use crate::report::Report;
 use aoi::Unit;
 use flick_engine::{Engine, Wire};
 use flick_lines::Verb;
@@ -50,16 +50,16 @@ pub fn prepare<F: Shelf>(
     ensures stands { result ≢ Err TaskErr.Shelf → F.faults shelf.old ≡ F.faults shelf.new }
 {
     match command {
-        Command::Help => Ok(Prepared::of_saying(alloc, Saying::Help, None)?),
-        Command::Version => Ok(Prepared::of_saying(alloc, Saying::Version, None)?),
+        Command::Help => Ok(Prepared::of_report(alloc, Report::Help, None)?),
+        Command::Version => Ok(Prepared::of_report(alloc, Report::Version, None)?),
         Command::Show(front) => {
             let read = unit_at(alloc, front, word_at(words, SHOWN), shelf)?;
             Ok(shown(alloc, read)?)
         }
         Command::Over(action, named) => {
             match engine_at(alloc, &named, word_at(words, named.file), shelf)? {
-                Ok(engine) => acting(alloc, action, engine, words, shelf, buf),
-                Err(saying) => Ok(Prepared::of_saying(alloc, saying, None)?),
+                Ok(engine) => run_action(alloc, action, engine, words, shelf, buf),
+                Err(report) => Ok(Prepared::of_report(alloc, report, None)?),
             }
         }
         Command::Bridge(named, to) => {
@@ -89,26 +89,26 @@ fn bridging<F: Shelf>(
     match bridge_at(alloc, named, to, path, shelf)? {
         Ok(bridge) => Ok(Prepared::of_job(Octets::new(alloc), Job::Bridge(bridge))),
         Err(none) => {
-            let NoBridge { saying, engine } = none;
-            Ok(Prepared::of_saying(alloc, saying, engine)?)
+            let NoBridge { report, engine } = none;
+            Ok(Prepared::of_report(alloc, report, engine)?)
         }
     }
 }
 
 /// To write the text of what was read, or what is said instead.
-fn shown(alloc: Global, read: Result<Unit, Saying>) -> Result<Prepared, NoMemory>
+fn shown(alloc: Global, read: Result<Unit, Report>) -> Result<Prepared, NoMemory>
     ensures value { IfOk result (λ p. task_in p [] ≡ showing_task (plainly read)) }
     ensures ready { IfOk result IsReady }
     ensures items { IfOk result (λ p. p.feed ≡ None) }
 {
     match read {
         Ok(unit) => Ok(Prepared::of_text(show_text(alloc, &unit)?, None)),
-        Err(saying) => Ok(Prepared::of_saying(alloc, saying, None)?),
+        Err(report) => Ok(Prepared::of_report(alloc, report, None)?),
     }
 }
 
 /// What an action comes to over an engine.
-fn acting<F: Shelf>(
+fn run_action<F: Shelf>(
     alloc: Global,
     action: Action,
     engine: Engine,
@@ -133,7 +133,7 @@ fn acting<F: Shelf>(
         Action::Answer(verb) => Ok(answering(alloc, verb, engine)?),
         Action::Pipe => Ok(Prepared::of_job(Octets::new(alloc), Job::Pipe(engine))),
         Action::Unpipe => Ok(Prepared::of_job(Octets::new(alloc), Job::Unpipe(engine))),
-        Action::Serve(replies) => serving(alloc, engine, word_at(words, replies), shelf),
+        Action::Serve(replies) => serve_file(alloc, engine, word_at(words, replies), shelf),
         Action::Stubs => {
             let text = stubs_text(alloc, &engine)?;
             Ok(Prepared::of_text(text, Some(engine)))
@@ -147,7 +147,7 @@ fn acting<F: Shelf>(
 
 /// To serve by the replies of the file at a path, or what is said instead. One octet more than the greatest
 /// length is read, which shows that a file is longer.
-fn serving<F: Shelf>(
+fn serve_file<F: Shelf>(
     alloc: Global,
     engine: Engine,
     path: &[u8],
@@ -165,27 +165,27 @@ fn serving<F: Shelf>(
     ensures stands { result ≢ Err TaskErr.Shelf → F.faults shelf.old ≡ F.faults shelf.new }
 {
     match shelf.read_file(alloc, path, LONGEST_REPLIES + 1) {
-        Ok(text) => Ok(serving_by(alloc, engine, text)?),
-        Err(ShelfErr::Absent) => Ok(Prepared::of_saying(alloc, Saying::NoReplies, Some(engine))?),
+        Ok(text) => Ok(serve_text(alloc, engine, text)?),
+        Err(ShelfErr::Absent) => Ok(Prepared::of_report(alloc, Report::NoReplies, Some(engine))?),
         Err(ShelfErr::Failed) => Err(TaskErr::Shelf),
         Err(ShelfErr::NoMemory) => Err(TaskErr::NoMemory),
     }
 }
 
 /// To serve by the replies that a text gives, unless it is too large.
-fn serving_by(alloc: Global, engine: Engine, text: Octets) -> Result<Prepared, NoMemory>
+fn serve_text(alloc: Global, engine: Engine, text: Octets) -> Result<Prepared, NoMemory>
     ensures serves { IfOk result (λ p. ServesFile engine (Some text) (task_in p [])) }
     ensures codes { IfOk result (λ p. HasCodes (Ok engine) p) }
     ensures ready { IfOk result IsReady }
 {
     if text.len() > LONGEST_REPLIES as usize {
-        return Prepared::of_saying(alloc, Saying::LargeReplies, Some(engine));
+        return Prepared::of_report(alloc, Report::LargeReplies, Some(engine));
     }
-    served(alloc, engine, text)
+    server_from(alloc, engine, text)
 }
 
 /// To serve by the replies that a text gives, or to say which of its lines is wrong.
-fn served(alloc: Global, engine: Engine, text: Octets) -> Result<Prepared, NoMemory>
+fn server_from(alloc: Global, engine: Engine, text: Octets) -> Result<Prepared, NoMemory>
     ensures serves { IfOk result (λ p. ServesText engine text (task_in p [])) }
     ensures codes { IfOk result (λ p. HasCodes (Ok engine) p) }
     ensures ready { IfOk result IsReady }
@@ -194,7 +194,7 @@ fn served(alloc: Global, engine: Engine, text: Octets) -> Result<Prepared, NoMem
         Ok(server) => Ok(Prepared::of_job(Octets::new(alloc), Job::Serve(server))),
         Err(wrong) => {
             let WrongReplies { line, engine } = wrong;
-            Prepared::of_saying(alloc, Saying::WrongReply(line.0), Some(engine))
+            Prepared::of_report(alloc, Report::WrongReply(line.0), Some(engine))
         }
     }
 }

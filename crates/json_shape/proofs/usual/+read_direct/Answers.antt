@@ -3,7 +3,7 @@ use Rattle.std.proofs.lemmas.Grind.{common_steps}
 use Rattle.std.proofs.lemmas.Slice.Eq.{bytes_eq-Decides}
 use Rattle.pres.specs.Faces.{faces, face_at}
 use Rattle.json_shape.proofs.UsualReading.{ItemRead, MemberRead, PartRead, array_read, items_read, list_read, members_read, object_read, paired_all, paired_more, parts_read}
-use Rattle.json_shape.proofs.usual.+scan.Goals as goal
+use Rattle.json_shape.proofs.usual.+read_direct.Goals as goal
 
 pub named-returns : goal.named-returns
 named-returns t c = object_read _ _ _ c.in_ok-read.read c.in_ok-found.ensures c.in_ok-read.ensures
