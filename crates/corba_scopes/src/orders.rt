@@ -1,4 +1,4 @@
-//! The scopes of interfaces, each with those in which its names are found.
+//! Base orders: for each interface the scopes in which its names are found.
 
 ghost use Rattle.std.specs.Prelude.{◌≡◌, ◌∷◌, [], map, IfOk, OnOk, option_copied};
 ghost use Rattle.idl_names.specs.Names.{meaning_of};
@@ -10,7 +10,7 @@ use kit_base::NoMemory;
 use std::alloc::Global;
 use std::marker::Model;
 
-/// The scopes in which a name of an interface is found: its own, and then those of its bases, each once.
+/// The base order of an interface: its own scope, and then those of its bases, each once.
 #[derive(Drop)]
 pub struct BaseOrder {
     scopes: IndexSet<Vec<u8>>,
@@ -26,7 +26,7 @@ impl Model for BaseOrder {
 }
 
 impl BaseOrder {
-    /// The line of an interface without bases.
+    /// The order of an interface without bases.
     pub fn of(alloc: Global, scope: &[u8]) -> Result<BaseOrder, NoMemory>
         ensures { IfOk result (λ line. line ≡ scope.now ∷ []) }
     {
@@ -56,7 +56,7 @@ impl BaseOrder {
         Ok(())
     }
 
-    /// Puts the scopes of a line after the others, without those that are there.
+    /// Puts the scopes of another order after the others, without those that are there.
     pub fn join(&mut self, alloc: Global, other: &BaseOrder) -> Result<(), NoMemory>
         ensures { OnOk result (self.new ≡ joined self.old other.now) }
     {
@@ -71,7 +71,7 @@ impl BaseOrder {
     }
 }
 
-/// The lines of interfaces, by their scopes.
+/// The base orders of interfaces, by their scopes.
 #[derive(Drop)]
 pub(crate) struct BaseOrders {
     lines: IndexMap<Vec<u8>, BaseOrder>,

@@ -72,7 +72,7 @@ status:\n\
 /// The line that `--version` writes.
 pub const VERSION: &[u8] = b"flick 0.1.0\n";
 
-/// What is said in place of answers.
+/// A report: what is written in place of answers.
 #[derive(Clone, Copy, Debug, PartialEq, Eq)]
 pub enum Report {
     /// The page of usage.
