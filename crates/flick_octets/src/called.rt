@@ -9,7 +9,7 @@ use crate::sheet::{Halt, Sheet};
 use crate::stops::{Stop, Why};
 use crate::table::{Table, table_of, table_of_long};
 use crate::{giop, mach, onc};
-use head_kit::{Called, Naming};
+use head_kit::{CallHead, CallTarget};
 use kit_base::NoMemory;
 use kit_base::limits::LONGEST_MESSAGE;
 use mint::table::NodeId;
@@ -43,7 +43,7 @@ pub fn tell_request(alloc: Global, bound: &Bound, message: &[u8]) -> Result<Tabl
 }
 
 /// What the head of a message names.
-fn read_called(bound: &Bound, message: &[u8]) -> Result<Called, HeadErr> {
+fn read_called(bound: &Bound, message: &[u8]) -> Result<CallHead, HeadErr> {
     match bound.back() {
         Back::Xdr => back_xdr::read_called(bound, message),
         Back::CdrBig | Back::CdrLittle => back_cdr::read_called(bound, message),
@@ -72,7 +72,7 @@ pub(crate) fn place_of(sheet: &Sheet<'_>, told: Result<(), Halt>) -> Result<usiz
 /// The table of a request by what its head names.
 fn tell_called(
     bound: &Bound,
-    called: &Called,
+    called: &CallHead,
     sheet: Sheet<'_>,
     message: &[u8],
 ) -> Result<Table, NoMemory>
@@ -81,11 +81,11 @@ fn tell_called(
     ensures whole { IfOk result (λ t. t.stop ≡ None → t.end ≡ length message.now) }
 {
     let why = match called.naming {
-        Naming::Operation(op) => {
+        CallTarget::Operation(op) => {
             return tell_arguments(bound, called, op, sheet, message);
         }
-        Naming::NoInterface => Why::Interface,
-        Naming::NoOperation => Why::Operation,
+        CallTarget::NoInterface => Why::Interface,
+        CallTarget::NoOperation => Why::Operation,
     };
     let stop = Stop {
         why,
@@ -97,7 +97,7 @@ fn tell_called(
 /// The table of a request to an operation, whose head is told.
 fn tell_arguments(
     bound: &Bound,
-    called: &Called,
+    called: &CallHead,
     op: u32,
     sheet: Sheet<'_>,
     message: &[u8],
