@@ -1,10 +1,10 @@
-//! What stands between the parts of a long declaration: fields, items, parameters, summands.
+//! What stands between the parts of a long declaration: fields, items, parameters.
 
 use crate::files::is_mark;
 use crate::furthest::Question;
 
 /// What may stand between parts.
-const MARKS: [&[u8]; 3] = [b";", b",", b"+"];
+const MARKS: [&[u8]; 2] = [b";", b","];
 
 /// Within how many brackets parts are looked for, from 0.
 const DEPTHS: usize = 6;
