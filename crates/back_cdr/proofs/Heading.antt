@@ -3,7 +3,7 @@ use Rattle.std.proofs.Common.{ℕ, List, length, refl}
 use Rattle.wire_def.specs.Grammar.{AreOctets}
 use Rattle.head_kit.specs.Calls.{IsOneHead, HasHead}
 use Rattle.head_kit.proofs.Heading.{one_call, has_call}
-use Rattle.giop_head.specs.declared.header.Way.TheVariants.{Requests}
+use Rattle.giop_head.specs.declared.header.HeadKind.TheVariants.{Requests}
 use Rattle.giop_head.specs.Heads.{format, StopsWith}
 use Rattle.giop_head.specs.Reported.{request_reported}
 use Rattle.giop_head.proofs.Lawful.{heads_are_read}

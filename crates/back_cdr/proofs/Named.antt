@@ -3,8 +3,8 @@ use Rattle.std.proofs.Common.{◌≡◌, ◌+◌, ℕ, List, length, sym, ap, su
 use Rattle.std.proofs.lemmas.Slice.Eq.{bytes_eq-Decides}
 use Rattle.aoi.specs.Plain.{PlainInterface}
 use Rattle.wire_def.specs.declared.encoding.Encoding.{Encoding}
-use Rattle.head_kit.specs.declared.called.Called.{Called}
-use Rattle.head_kit.specs.declared.called.Naming.{Naming}
+use Rattle.head_kit.specs.declared.call_head.CallHead.{CallHead}
+use Rattle.head_kit.specs.declared.call_head.CallTarget.{CallTarget}
 use Rattle.head_kit.specs.Calls.{IsBelow}
 use Rattle.head_kit.proofs.Named as kit
 use Rattle.giop_head.specs.Header.{IsMinor}
@@ -28,15 +28,15 @@ named_right b t op e =
     )
 
 -- what a head says of which the request was read, and what it names was found
-pub says : (b : Binding) (o : List ℕ) (t : ReportedRequest) (n : Naming) (e : Encoding) → BeginsRequest o t → n ≡ named b t
+pub says : (b : Binding) (o : List ℕ) (t : ReportedRequest) (n : CallTarget) (e : Encoding) → BeginsRequest o t → n ≡ named b t
     → e ≡ laid t.head.order → Calls b o (record { naming = n; head = t.head; encoding = e; used = t.used; minor = t.minor })
 says b o t n e begins names lies = (
   t,
   begins,
-  ap (λ (x : Naming). record { naming = x; head = t.head; encoding = laid t.head.order; used = t.used; minor = t.minor }) (sym names)
+  ap (λ (x : CallTarget). record { naming = x; head = t.head; encoding = laid t.head.order; used = t.used; minor = t.minor }) (sym names)
       ∙ ap (λ (x : Encoding). record { naming = n; head = t.head; encoding = x; used = t.used; minor = t.minor }) (sym lies),
 )
 
 -- what a head says has the minor number of a version that is read
-pub minor_called : (b : Binding) (o : List ℕ) (c : Called) → Calls b o c → IsMinor c.minor
-minor_called b o c (t, begins, same) = subst (λ (x : Called). IsMinor x.minor) same (minor_of_request o t begins)
+pub minor_called : (b : Binding) (o : List ℕ) (c : CallHead) → Calls b o c → IsMinor c.minor
+minor_called b o c (t, begins, same) = subst (λ (x : CallHead). IsMinor x.minor) same (minor_of_request o t begins)

@@ -8,7 +8,7 @@ use Rattle.wire_def.specs.declared.encoding.Back.{Back}
 use Rattle.wire_def.specs.declared.encoding.Back.TheVariants as back
 use Rattle.aoi.specs.Plain.{PlainInterface, PlainOperation}
 use Rattle.cast_stub.specs.Parts.{on_some}
-use Rattle.head_kit.specs.declared.called.Naming.{Naming}
+use Rattle.head_kit.specs.declared.call_head.CallTarget.{CallTarget}
 use Rattle.head_kit.specs.Calls.{operation_at}
 use Rattle.back_cdr.specs.declared.names.Names.{Names}
 use Rattle.back_cdr.specs.Names.{AreNames, AreNamesOver, operation_of, found}
@@ -85,7 +85,7 @@ after_first x xs (Some n) =
     let next : 1 + n ≡ suc n = omega arith in
     ap (slice_get (x ∷ xs)) next
 
-at_first : (s t : Bool) (x : Offered) (xs : List Offered) (o : Option ℕ) (name : List ℕ) (a b : Naming) → s ≡ t
+at_first : (s t : Bool) (x : Offered) (xs : List Offered) (o : Option ℕ) (name : List ℕ) (a b : CallTarget) → s ≡ t
     → operation_in x name ≡ a → operation_of (on_some o (slice_get (x ∷ xs))) name ≡ b
     → operation_of (on_some (if s then Some 0 else o) (slice_get (x ∷ xs))) name ≡ (if t then a else b)
 at_first true true x xs o name a b same e f = e

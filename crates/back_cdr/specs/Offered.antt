@@ -4,7 +4,7 @@ use Rattle.std.specs.List.{position_from}
 use Rattle.std.specs.Str.{bytes_eq}
 use Rattle.aoi.specs.declared.interfaces.Raise.{Raise}
 use Rattle.aoi.specs.Plain.{PlainRaise, PlainInterface, PlainOperation, plain_raise}
-use Rattle.head_kit.specs.declared.called.Naming.{Naming}
+use Rattle.head_kit.specs.declared.call_head.CallTarget.{CallTarget}
 use Rattle.head_kit.specs.Calls.{operation_at}
 
 -- names in order, and the number of the first of them
@@ -47,5 +47,5 @@ abbrev pub number_in : Offered → List ℕ → Option ℕ
 number_in x name = option_map (λ (n : ℕ). x.first + n) (position_from (bytes_eq name) 0 x.names)
 
 -- the operation of a name
-abbrev pub operation_in : Offered → List ℕ → Naming
+abbrev pub operation_in : Offered → List ℕ → CallTarget
 operation_in x name = operation_at (number_in x name)

@@ -4,7 +4,7 @@ ghost use Rattle.std.specs.Prelude.{◌≡◌, ◌++◌, length, map, IfErr, IfO
 ghost use Rattle.aoi.specs.Plain.{plain_interface, plain_operation};
 ghost use Rattle.wire_def.specs.Lone.{IsPlain};
 ghost use Rattle.head_kit.specs.Calls.{IsBelow};
-ghost use Rattle.giop_head.specs.declared.header.Way.TheVariants.{Requests};
+ghost use Rattle.giop_head.specs.declared.header.HeadKind.TheVariants.{Requests};
 ghost use Rattle.giop_head.specs.Header.{IsMinor};
 ghost use Rattle.giop_head.specs.Heads.{StopsWith};
 ghost use Rattle.giop_head.specs.Reported.{request_seen};
@@ -19,7 +19,7 @@ use crate::targets::operations_are_targets;
 use aoi::{Interface, Operation, Raise};
 use demux::{Demux, WordName};
 use giop_head::{GiopRequest, read_request};
-use head_kit::{Called, Naming};
+use head_kit::{CallHead, CallTarget};
 use kit_base::{Listed, Name, NoMemory, Words};
 use pres::Bound;
 use std::alloc::Global;
@@ -96,20 +96,20 @@ impl Names {
     }
 
     /// The operation of a key and a name.
-    fn find(&self, key: &[u8], name: &[u8]) -> Naming
+    fn find(&self, key: &[u8], name: &[u8]) -> CallTarget
         ensures { result ≡ found self.now key.now name.now }
     {
         let Some(place) = self.interfaces.pick(&mut WordName::new(key)) else {
-            return Naming::NoInterface;
+            return CallTarget::NoInterface;
         };
         match self.offered.get(place as usize) {
             Some(numbered) => numbered.find(name),
-            None => Naming::NoInterface,
+            None => CallTarget::NoInterface,
         }
     }
 
     /// The operation that a request names.
-    fn named(&self, bound: &Bound, request: &GiopRequest<'_>) -> Naming
+    fn named(&self, bound: &Bound, request: &GiopRequest<'_>) -> CallTarget
         requires cdr { IsCdr bound.now.back }
         requires names { AreNamesOver bound.now.back bound.now.unit.interfaces self.now }
         ensures value { result ≡ named bound.now (request_seen request.now) }
@@ -121,7 +121,7 @@ impl Names {
 
     /// Reads the head of a request from the first octets of a message, as `read_called` does. What it names is
     /// picked among the names.
-    pub fn read_called(&self, bound: &Bound, message: &[u8]) -> Result<Called, HeadErr>
+    pub fn read_called(&self, bound: &Bound, message: &[u8]) -> Result<CallHead, HeadErr>
         requires cdr { IsCdr bound.now.back }
         requires names { AreNamesOver bound.now.back bound.now.unit.interfaces self.now }
         ensures begins { IfOk result (λ c. Calls bound.now message.now c) }
@@ -131,7 +131,7 @@ impl Names {
         ensures stops { IfErr result (λ e. StopsWith Requests message.now e) }
     {
         match read_request(message) {
-            Ok(request) => Ok(Called {
+            Ok(request) => Ok(CallHead {
                 naming: self.named(bound, &request),
                 head: request.head,
                 encoding: laid(request.head.order),

@@ -6,7 +6,7 @@ ghost use Rattle.back_cdr.specs.Offered.{names_of, number_in, operation_in};
 
 use aoi::Operation;
 use demux::{Demux, WordName};
-use head_kit::Naming;
+use head_kit::CallTarget;
 use kit_base::{Name, NoMemory, Words};
 use std::alloc::Global;
 use std::marker::Model;
@@ -102,12 +102,12 @@ impl Numbered {
     }
 
     /// The operation of a name.
-    pub(crate) fn find(&self, name: &[u8]) -> Naming
+    pub(crate) fn find(&self, name: &[u8]) -> CallTarget
         ensures { result ≡ operation_in self.now name.now }
     {
         match self.number(name) {
-            Some(op) => Naming::Operation(op),
-            None => Naming::NoOperation,
+            Some(op) => CallTarget::Operation(op),
+            None => CallTarget::NoOperation,
         }
     }
 }

@@ -6,7 +6,7 @@ ghost use Rattle.std.specs.Str.{bytes_eq};
 ghost use Rattle.aoi.specs.Plain.{plain_interface};
 ghost use Rattle.wire_def.specs.Lone.{IsPlain};
 ghost use Rattle.head_kit.specs.Calls.{IsBelow};
-ghost use Rattle.giop_head.specs.declared.header.Way.TheVariants.{Requests};
+ghost use Rattle.giop_head.specs.declared.header.HeadKind.TheVariants.{Requests};
 ghost use Rattle.giop_head.specs.Header.{IsMinor};
 ghost use Rattle.giop_head.specs.Heads.{StopsWith};
 ghost use Rattle.giop_head.specs.Items.{laid};
@@ -17,7 +17,7 @@ ghost use Rattle.back_cdr.specs.Seeking.{Calls, has_name, named, named_from};
 use crate::targets::operations_are_targets;
 use aoi::Interface;
 use giop_head::{GiopRequest, read_request};
-use head_kit::{Called, Naming, operation_at};
+use head_kit::{CallHead, CallTarget, operation_at};
 use pres::Bound;
 use wire_def::{Encoding, HeadErr, Order};
 
@@ -55,7 +55,7 @@ fn has_key(i: &Interface, key: &[u8]) -> bool
 }
 
 /// The operation of a key and a name, where those of the interfaces are counted from a number.
-fn seek(interfaces: &[Interface], first: u32, key: &[u8], name: &[u8]) -> Naming
+fn seek(interfaces: &[Interface], first: u32, key: &[u8], name: &[u8]) -> CallTarget
     requires { first + length (targets (map plain_interface interfaces.now)) < 2 ^ 32 }
     ensures { result ≡ named_from first (map plain_interface interfaces.now) key.now name.now }
 {
@@ -66,11 +66,11 @@ fn seek(interfaces: &[Interface], first: u32, key: &[u8], name: &[u8]) -> Naming
         }
         first += i.ops.len() as u32;
     }
-    Naming::NoInterface
+    CallTarget::NoInterface
 }
 
 /// The operation that a request names.
-fn named(bound: &Bound, request: &GiopRequest<'_>) -> Naming
+fn named(bound: &Bound, request: &GiopRequest<'_>) -> CallTarget
     requires cdr { IsCdr bound.now.back }
     ensures value { result ≡ named bound.now (request_seen request.now) }
     ensures below { IsBelow (length bound.now.ops) result }
@@ -83,7 +83,7 @@ fn named(bound: &Bound, request: &GiopRequest<'_>) -> Naming
 /// Reads the head of a request from the first octets of a message: what it says over a bound unit, or
 /// the first item of it that is cut off or wrong. A LocateRequest has the fault of its type, and a target of
 /// another kind than a key is a fault.
-pub fn read_called(bound: &Bound, message: &[u8]) -> Result<Called, HeadErr>
+pub fn read_called(bound: &Bound, message: &[u8]) -> Result<CallHead, HeadErr>
     requires cdr { IsCdr bound.now.back }
     ensures begins { IfOk result (λ c. Calls bound.now message.now c) }
     ensures below { IfOk result (λ c. IsBelow (length bound.now.ops) c.naming) }
@@ -92,7 +92,7 @@ pub fn read_called(bound: &Bound, message: &[u8]) -> Result<Called, HeadErr>
     ensures stops { IfErr result (λ e. StopsWith Requests message.now e) }
 {
     match read_request(message) {
-        Ok(request) => Ok(Called {
+        Ok(request) => Ok(CallHead {
             naming: named(bound, &request),
             head: request.head,
             encoding: laid(request.head.order),

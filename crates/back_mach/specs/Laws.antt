@@ -10,11 +10,11 @@ use Rattle.head_arms.specs.Arms.{arm_status}
 use Rattle.wire_def.specs.declared.reply.Status.TheVariants.{RetCode}
 use Rattle.wire_def.specs.Grammar.{AreOctets}
 use Rattle.head_kit.specs.Heads.{IsDecided, IsRead}
-use Rattle.head_kit.specs.declared.called.Naming.TheVariants.{Operation}
+use Rattle.head_kit.specs.declared.call_head.CallTarget.TheVariants.{Operation}
 use Rattle.pres.specs.Bindings.{Binding}
 use Rattle.back_mach.specs.declared.call.MachCall.{MachCall}
 use Rattle.back_mach.specs.declared.routines.Routine.{Routine}
-use Rattle.back_mach.specs.Heads.{Way, format}
+use Rattle.back_mach.specs.Heads.{HeadKind, format}
 use Rattle.back_mach.specs.Leads.{lead, lead_length, reply_lead, reply_lead_length, reply_id, reply_port, with_size}
 use Rattle.back_mach.specs.Refusals.{IsOwn, refusal_octets}
 use Rattle.back_mach.specs.Routines.{routine_of}
@@ -24,11 +24,11 @@ use Rattle.head_kit.specs.Words.{IsWord}
 
 -- each message begins with a head or stops with a fault, one of the two, and which head and which fault is determined
 abbrev pub HeadsAreDecided : Type 0
-HeadsAreDecided = (w : Way) (message : List ℕ) → AreOctets message → IsDecided (format w (length message)) message
+HeadsAreDecided = (w : HeadKind) (message : List ℕ) → AreOctets message → IsDecided (format w (length message)) message
 
 -- what is read of a message of any length is spelled, and where reading stops there is the fault
 abbrev pub HeadsAreRead : Type 0
-HeadsAreRead = (w : Way) (n : ℕ) → IsRead (format w n)
+HeadsAreRead = (w : HeadKind) (n : ℕ) → IsRead (format w n)
 
 -- the operation that a request names has its id
 abbrev pub IsNamedRight : Type 0

@@ -3,8 +3,8 @@ use Rattle.std.specs.Prelude.{◌≡◌, ℕ, ◌+◌, ◌==◌, Bool, ◌&&◌,
 use Rattle.wire_def.specs.declared.encoding.Encoding.{Encoding}
 use Rattle.wire_def.specs.declared.encoding.Encoding.TheVariants.{Mach}
 use Rattle.aoi.specs.Plain.{PlainInterface, PlainOperation}
-use Rattle.head_kit.specs.declared.called.Called.{Called}
-use Rattle.head_kit.specs.declared.called.Naming.{Naming}
+use Rattle.head_kit.specs.declared.call_head.CallHead.{CallHead}
+use Rattle.head_kit.specs.declared.call_head.CallTarget.{CallTarget}
 use Rattle.head_kit.specs.Calls as kit
 use Rattle.back_mach.specs.Routines.{ops_of}
 use Rattle.back_mach.specs.declared.call.MachCall.{MachCall}
@@ -28,17 +28,17 @@ abbrev pub is_asked : ℕ → PlainInterface → PlainOperation → Bool
 is_asked id i = has_slot i.base id
 
 -- the first interface that has the id, and its first operation of that slot; operations are counted from k over all interfaces
-abbrev pub named_from : ℕ → List PlainInterface → ℕ → Naming
+abbrev pub named_from : ℕ → List PlainInterface → ℕ → CallTarget
 named_from k is id = kit.named_from ops_of (has_id id) (is_asked id) k is
 
 -- the operation that a request names
-abbrev pub named : Binding → MachCall → Naming
+abbrev pub named : Binding → MachCall → CallTarget
 named b c = named_from 0 b.unit.interfaces c.id
 
 -- what the head of a request says
-abbrev pub called : Binding → MachCall → Called
+abbrev pub called : Binding → MachCall → CallHead
 called b c = record { naming = named b c; head = c.head; encoding = encoding; used = c.used; minor = 0 }
 
 -- a message begins with the head of a request that says this
-abbrev pub Calls : Binding → List ℕ → Called → Type 0
+abbrev pub Calls : Binding → List ℕ → CallHead → Type 0
 Calls b o reported = (c : MachCall) × BeginsCall o c × (called b c ≡ reported)

@@ -13,7 +13,7 @@ ghost use Rattle.back_mach.specs.Seeking.{Calls, has_id, has_slot, named, named_
 use crate::call::{MachCall, read_call};
 use crate::routines::operations_are_routines;
 use aoi::Interface;
-use head_kit::{Called, Naming, operation_at};
+use head_kit::{CallHead, CallTarget, operation_at};
 use pres::Bound;
 use wire_def::{Encoding, HeadErr};
 
@@ -43,7 +43,7 @@ fn place_of(i: &Interface, first: u32, id: u32) -> Option<u32>
 }
 
 /// The operation of an id, where those of the interfaces are counted from a number.
-fn seek(interfaces: &[Interface], first: u32, id: u32) -> Naming
+fn seek(interfaces: &[Interface], first: u32, id: u32) -> CallTarget
     requires { first + length (routines (map plain_interface interfaces.now)) < 2 ^ 32 }
     ensures { result ≡ named_from first (map plain_interface interfaces.now) id }
 {
@@ -54,11 +54,11 @@ fn seek(interfaces: &[Interface], first: u32, id: u32) -> Naming
         }
         first += i.ops.len() as u32;
     }
-    Naming::NoInterface
+    CallTarget::NoInterface
 }
 
 /// The operation that a request names.
-fn named(bound: &Bound, call: &MachCall) -> Naming
+fn named(bound: &Bound, call: &MachCall) -> CallTarget
     requires mach { bound.now.back ≡ Mach }
     ensures value { result ≡ named bound.now call.now }
     ensures below { IsBelow (length bound.now.ops) result }
@@ -69,14 +69,14 @@ fn named(bound: &Bound, call: &MachCall) -> Naming
 
 /// Reads the head of a request from the first octets of a message: what it says over a bound unit,
 /// or the first item of it that is cut off or wrong.
-pub fn read_called(bound: &Bound, message: &[u8]) -> Result<Called, HeadErr>
+pub fn read_called(bound: &Bound, message: &[u8]) -> Result<CallHead, HeadErr>
     requires mach { bound.now.back ≡ Mach }
     ensures begins { IfOk result (λ c. Calls bound.now message.now c) }
     ensures below { IfOk result (λ c. IsBelow (length bound.now.ops) c.naming) }
     ensures stops { IfErr result (λ e. StopsWith heads.call message.now e) }
 {
     match read_call(message) {
-        Ok(call) => Ok(Called {
+        Ok(call) => Ok(CallHead {
             naming: named(bound, &call),
             head: call.head,
             encoding: ENCODING,

@@ -5,11 +5,11 @@ use Rattle.wire_def.specs.declared.outcome.Refusal.{Refusal}
 use Rattle.wire_def.specs.declared.reply.ReplyHead.{ReplyHead}
 use Rattle.head_arms.specs.Arms.{arm_status}
 use Rattle.head_kit.specs.Heads.{IsDecided, IsRead}
-use Rattle.head_kit.specs.declared.called.Naming.TheVariants.{Operation}
+use Rattle.head_kit.specs.declared.call_head.CallTarget.TheVariants.{Operation}
 use Rattle.pres.specs.Bindings.{Binding}
 use Rattle.back_xdr.specs.declared.call.OncCall.{OncCall}
 use Rattle.back_xdr.specs.declared.procedures.Procedure.{Procedure}
-use Rattle.back_xdr.specs.Heads.{Way, format}
+use Rattle.back_xdr.specs.Heads.{HeadKind, format}
 use Rattle.back_xdr.specs.Leads.{lead, lead_length, reply_lead, reply_lead_length}
 use Rattle.back_xdr.specs.Procedures.{procedure_of}
 use Rattle.back_xdr.specs.Refusals.{IsOwn, refusal_octets}
@@ -19,11 +19,11 @@ use Rattle.head_kit.specs.Words.{IsWord}
 
 -- each message begins with a head or stops with a fault, one of the two, and which head and which fault is determined
 abbrev pub HeadsAreDecided : Type 0
-HeadsAreDecided = (w : Way) (message : List ℕ) → AreOctets message → IsDecided (format w) message
+HeadsAreDecided = (w : HeadKind) (message : List ℕ) → AreOctets message → IsDecided (format w) message
 
 -- what is read is spelled, and where reading stops there is the fault
 abbrev pub HeadsAreRead : Type 0
-HeadsAreRead = (w : Way) → IsRead (format w)
+HeadsAreRead = (w : HeadKind) → IsRead (format w)
 
 -- the procedure that a call calls
 abbrev pub called_by : OncCall → Procedure

@@ -11,7 +11,7 @@ ghost use Rattle.back_xdr.specs.Seeking.{named, is_called, Calls};
 use crate::call::{OncCall, read_call};
 use crate::procedures::{before, operations_are_procedures, place_of};
 use aoi::Interface;
-use head_kit::{Called, Naming, operation_at};
+use head_kit::{CallHead, CallTarget, operation_at};
 use pres::Bound;
 use wire_def::{Encoding, HeadErr};
 
@@ -26,7 +26,7 @@ fn is_called(call: &OncCall, i: &Interface) -> bool
 }
 
 /// The operation that a call names, in the first of the interfaces that it calls.
-fn seek(bound: &Bound, interfaces: &[Interface], call: &OncCall) -> Naming
+fn seek(bound: &Bound, interfaces: &[Interface], call: &OncCall) -> CallTarget
     requires xdr { bound.now.back ≡ Xdr }
     requires all { map plain_interface interfaces.now ≡ bound.now.unit.interfaces }
     ensures { result ≡ named bound.now call.now }
@@ -39,11 +39,11 @@ fn seek(bound: &Bound, interfaces: &[Interface], call: &OncCall) -> Naming
         }
         place += 1;
     }
-    Naming::NoInterface
+    CallTarget::NoInterface
 }
 
 /// The operation that a call names.
-fn named(bound: &Bound, call: &OncCall) -> Naming
+fn named(bound: &Bound, call: &OncCall) -> CallTarget
     requires xdr { bound.now.back ≡ Xdr }
     ensures value { result ≡ named bound.now call.now }
     ensures below { IsBelow (length bound.now.ops) result }
@@ -54,14 +54,14 @@ fn named(bound: &Bound, call: &OncCall) -> Naming
 
 /// Reads the head of a call from the first octets of a message: what it says over a bound unit, or
 /// the first item of it that is cut off or wrong.
-pub fn read_called(bound: &Bound, message: &[u8]) -> Result<Called, HeadErr>
+pub fn read_called(bound: &Bound, message: &[u8]) -> Result<CallHead, HeadErr>
     requires xdr { bound.now.back ≡ Xdr }
     ensures begins { IfOk result (λ c. Calls bound.now message.now c) }
     ensures below { IfOk result (λ c. IsBelow (length bound.now.ops) c.naming) }
     ensures stops { IfErr result (λ e. StopsWith heads.call message.now e) }
 {
     match read_call(message) {
-        Ok(call) => Ok(Called {
+        Ok(call) => Ok(CallHead {
             naming: named(bound, &call),
             head: call.head,
             encoding: ENCODING,

@@ -3,6 +3,7 @@
 #![tactic(auto)]
 
 use anyhow::{Result, bail};
+use kit_base::limits::LONGEST_MESSAGE;
 use kit_base::{NoMemory, Octets};
 use mint::fits::fits;
 use mint::kind::{Count, Kind};
@@ -162,7 +163,7 @@ fn run(alloc: Global, verb: Verb, shape: Shape, count: u32, enc: Encoding) -> Re
     if verb == Verb::Send {
         return Ok(message.len());
     }
-    if message.len() > 4_194_304 {
+    if message.len() > LONGEST_MESSAGE {
         bail!("the message is too long");
     }
     match plain_read(alloc, enc, &table, id, 0, message.as_slice()) {

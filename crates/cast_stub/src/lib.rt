@@ -21,4 +21,4 @@ pub use laws::{
 pub use put::{HeadField, Path, Put, Puts};
 pub use recv::{Get, Gets, RecvCases, RecvCode, RecvOp, RecvOps, RecvSubs};
 pub use recv_laws::{earlier_tests_add, recv_code_after_code, recv_code_for_a_part};
-pub use send::{SendCases, SendCode, SendOp, SendOps, SendSubs};
+pub use send::{SendCases, SendCode, SendOp, SendOps, SendSubs, deepest_call};

@@ -1,5 +1,8 @@
 //! Code that sends.
 
+ghost use Rattle.std.specs.Prelude.{◌≡◌};
+ghost use Rattle.cast_stub.specs.Subs.{deepest};
+
 use crate::put::{Path, Puts};
 use kit_base::Listed;
 use mint::keyed::Keyed;
@@ -51,4 +54,11 @@ pub enum SendOp {
     Call(u32, Path),
     /// Four octets at a place of the message: the length so far, less a number.
     Patch(u32, u32, Order),
+}
+
+/// The calls of codes that may stand within one another, at most.
+pub fn deepest_call() -> u32
+    ensures { result ≡ deepest }
+{
+    4096
 }

@@ -1,6 +1,7 @@
 //! What is asked of the nodes of a case.
 
 ghost use Rattle.std.specs.Prelude.{◌<◌, ◌≤◌, length, IfOk};
+ghost use Rattle.kit_base.specs.Limits.{longest_message};
 
 use crate::codes::stub;
 use crate::heads::{refused, reply};
@@ -13,6 +14,7 @@ use crate::swaps::swapped;
 use crate::values::value_of;
 use hex::encode;
 use kit_base::Octets;
+use kit_base::limits::LONGEST_MESSAGE;
 use mint::blank_value::blank;
 use mint::copying::copy_value;
 use mint::fits::fits;
@@ -113,13 +115,13 @@ pub fn value_at(alloc: Global, row: &Json, table: &Mint, id: NodeId) -> Result<V
 
 /// The position at which a value begins, 0 where none is given.
 pub fn place_of(row: &Json) -> Result<usize, Bad>
-    ensures { IfOk result (λ at. at ≤ 4194304) }
+    ensures { IfOk result (λ at. at ≤ longest_message) }
 {
     let at = match row.get("at") {
         Some(at) => word(at)?,
         None => 0,
     };
-    if at <= 4_194_304 {
+    if at as usize <= LONGEST_MESSAGE {
         Ok(at as usize)
     } else {
         Err(Bad::Row("no place in a message"))
@@ -172,7 +174,7 @@ fn read(alloc: Global, row: &Json) -> Result<String, Bad> {
     let table = table_of(alloc, row)?;
     let id = id_of(row, &table)?;
     let message = octets(alloc, member(row, "octets")?)?;
-    if at > message.len() || message.len() > 4_194_304 {
+    if at > message.len() || message.len() > LONGEST_MESSAGE {
         return Err(Bad::Row("no place in the message"));
     }
     match plain_read(alloc, enc, &table, id, at, message.as_slice())? {

@@ -5,8 +5,8 @@ use Rattle.hex.specs.declared.error.FromHexError.{FromHexError}
 use Rattle.mint.specs.Values.{Val}
 use Rattle.wire_def.specs.declared.head.Head.{Head}
 use Rattle.wire_def.specs.Spells.{IsSpelling}
-use Rattle.head_kit.specs.declared.called.Called.{Called}
-use Rattle.head_kit.specs.declared.called.Naming.TheVariants.{Operation}
+use Rattle.head_kit.specs.declared.call_head.CallHead.{CallHead}
+use Rattle.head_kit.specs.declared.call_head.CallTarget.TheVariants.{Operation}
 use Rattle.pres.specs.Bindings.{Binding, IsBinding}
 use Rattle.pres_pairs.specs.Pairs.{ArePaired, pair_of}
 use Rattle.stub_codes.specs.Stubs.{Coded}
@@ -63,7 +63,7 @@ head_octets s op head = lead s.to.binding s.to.minor op head
 pub record AsksTheSame (s : Bridging) (o m : List ℕ) : Type 0 where
   pub value : Val
   -- what the message o is
-  pub call : Called
+  pub call : CallHead
   pub op : ℕ
   pub names : Names s.from.binding o call (Operation op)
   pub reads : IsSpelling call.encoding (request_type s.from.binding op) call.used (drop call.used o) value

@@ -3,8 +3,8 @@ use Rattle.std.proofs.Common.{◌≡◌, ◌+◌, ◌<◌, ◌≤◌, ℕ, List,
 use Rattle.std.proofs.lemmas.List.{length-drop, take_all}
 use Rattle.mint.specs.Values.{Val}
 use Rattle.plain_wire.specs.Answered.{FirstSpell}
-use Rattle.head_kit.specs.declared.called.Called.{Called}
-use Rattle.head_kit.specs.declared.called.Naming.TheVariants.{Operation}
+use Rattle.head_kit.specs.declared.call_head.CallHead.{CallHead}
+use Rattle.head_kit.specs.declared.call_head.CallTarget.TheVariants.{Operation}
 use Rattle.pres.specs.Bindings.{Binding}
 use Rattle.flick_engine.specs.declared.errors.MessageErr.TheVariants as err
 use Rattle.flick_engine.specs.Backs.{Begins}
@@ -14,10 +14,10 @@ use Rattle.flick_engine.proofs.HeadsOfBacks.{one_head}
 use Rattle.flick_engine.proofs.Deciding.{exactly}
 
 -- the head of a call lies within the message
-pub head_within : (b : Binding) (o : List ℕ) (c : Called) → Begins b o c → c.used ≤ length o
+pub head_within : (b : Binding) (o : List ℕ) (c : CallHead) → Begins b o c → c.used ≤ length o
 head_within b o c begins = (one_head b o).within c begins
 
-module _ (b : Binding) (o : List ℕ) (c : Called) (op : ℕ) (names : Names b o c (Operation op)) (v : Val) (used : ℕ)
+module _ (b : Binding) (o : List ℕ) (c : CallHead) (op : ℕ) (names : Names b o c (Operation op)) (v : Val) (used : ℕ)
     (spells : FirstSpell c.encoding (request_type b op) c.used (drop c.used o) v used) where
   -- a body lies within the message
   pub body_within : c.used + used ≤ length o

@@ -12,9 +12,9 @@ use Rattle.wire_def.specs.Reading.{read}
 use Rattle.wire_def.specs.Spells.{IsSpelling}
 use Rattle.wire_def.proofs.Encodings.{grammar}
 use Rattle.plain_wire.specs.Answered.{FirstSpell}
-use Rattle.head_kit.specs.declared.called.Called.{Called}
-use Rattle.head_kit.specs.declared.called.Naming.{Naming}
-use Rattle.head_kit.specs.declared.called.Naming.TheVariants as naming
+use Rattle.head_kit.specs.declared.call_head.CallHead.{CallHead}
+use Rattle.head_kit.specs.declared.call_head.CallTarget.{CallTarget}
+use Rattle.head_kit.specs.declared.call_head.CallTarget.TheVariants as naming
 use Rattle.pres.specs.Bindings.{Binding}
 use Rattle.flick_engine.specs.declared.errors.MessageErr.{MessageErr}
 use Rattle.flick_engine.specs.declared.errors.MessageErr.TheVariants as err
@@ -26,7 +26,7 @@ use Rattle.flick_engine.proofs.HeadsOfBacks.{one_head}
 -- ---- what is found first: too many octets, a head, or its fault
 
 abbrev Found : Type 0
-Found = Option (Result Called HeadErr)
+Found = Option (Result CallHead HeadErr)
 
 abbrev IsFound : Binding → List ℕ → Found → Type 0
 IsFound b o None = longest_message < length o
@@ -42,18 +42,18 @@ one_found b o (Some (Err d)) (Some (Err e)) p q = ap (λ (x : HeadErr). Some (Er
 one_found b o (Some (Err d)) (Some (Ok c)) p q = absurd ((one_head b o).not_both c d q.1 p.1)
 one_found b o (Some (Ok c)) None p q = absurd (omega (arith, q, p.0))
 one_found b o (Some (Ok c)) (Some (Err e)) p q = absurd ((one_head b o).not_both c e p.1 q.1)
-one_found b o (Some (Ok c)) (Some (Ok d)) p q = ap (λ (x : Called). Some (Ok x)) ((one_head b o).one_head c d p.1 q.1)
+one_found b o (Some (Ok c)) (Some (Ok d)) p q = ap (λ (x : CallHead). Some (Ok x)) ((one_head b o).one_head c d p.1 q.1)
 
 -- ---- what that makes of the message
 
 -- what the body that was read makes of a call of an operation
-abbrev after_body : Called → ℕ → Reading FaultKind Val → Result Asked MessageErr
+abbrev after_body : CallHead → ℕ → Reading FaultKind Val → Result Asked MessageErr
 after_body c op (stop k at) = Err (err.Body (record { kind = k; at = at }))
 after_body c op (got v q []) = Ok (record { op = op; head = c.head; value = v })
 after_body c op (got v q (x ∷ rest)) = Err (err.Trailing q)
 
 -- what the octets after the head make of a call that names this
-abbrev after_name : Binding → Called → List ℕ → Naming → Result Asked MessageErr
+abbrev after_name : Binding → CallHead → List ℕ → CallTarget → Result Asked MessageErr
 after_name b c o naming.NoInterface = Err err.NoInterface
 after_name b c o naming.NoOperation = Err err.NoOperation
 after_name b c o (naming.Operation op) = after_body c op (read c.encoding (request_type b op) c.used o)
@@ -68,11 +68,11 @@ after b o (Some (Ok c)) = after_name b c (drop c.used o) c.naming
 abbrev IsMadeOf : Binding → List ℕ → Result Asked MessageErr → Type 0
 IsMadeOf b o x = (f : Found) × IsFound b o f × (x ≡ after b o f)
 
-when_named : (b : Binding) (o : List ℕ) (c : Called) (n : Naming) (x : Result Asked MessageErr) → Names b o c n
+when_named : (b : Binding) (o : List ℕ) (c : CallHead) (n : CallTarget) (x : Result Asked MessageErr) → Names b o c n
     → after_name b c (drop c.used o) n ≡ x → IsMadeOf b o x
 when_named b o c n x (short, begins, is) e = (Some (Ok c), (short, begins), sym e ∙ ap (after_name b c (drop c.used o)) (sym is))
 
-when_called : (b : Binding) (o : List ℕ) (c : Called) (op : ℕ) (r : Reading FaultKind Val) (x : Result Asked MessageErr)
+when_called : (b : Binding) (o : List ℕ) (c : CallHead) (op : ℕ) (r : Reading FaultKind Val) (x : Result Asked MessageErr)
     → Names b o c (naming.Operation op)
     → read c.encoding (request_type b op) c.used (drop c.used o) ≡ r → after_body c op r ≡ x → IsMadeOf b o x
 when_called b o c op r x names is e = when_named b o c (naming.Operation op) x names (ap (after_body c op) is ∙ e)
@@ -90,7 +90,8 @@ first_read n t p o v used h =
 pub whole_read : (n : Encoding) (t : Ty) (p : ℕ) (o : List ℕ) (v : Val) → IsSpelling n t p o v → read n t p o ≡ got v (p + length o) []
 whole_read n t p o v h = rw append-nil at ((grammar n t).reads p o [] v h.octets)
 
-trailing : (c : Called) (op : ℕ) (v : Val) (q : ℕ) (rest : List ℕ) → 0 < length rest → after_body c op (got v q rest) ≡ Err (err.Trailing q)
+trailing : (c : CallHead) (op : ℕ) (v : Val) (q : ℕ) (rest : List ℕ) → 0 < length rest
+    → after_body c op (got v q rest) ≡ Err (err.Trailing q)
 trailing c op v q [] h = absurd (omega arith)
 trailing c op v q (x ∷ rest) h = refl
 

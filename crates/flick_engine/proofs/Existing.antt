@@ -11,9 +11,9 @@ use Rattle.wire_def.specs.Laws.{BeginsSpelled, HasFault}
 use Rattle.wire_def.specs.Spells.{IsSpelling}
 use Rattle.wire_def.proofs.Encodings.{decided}
 use Rattle.wire_def.proofs.Grammars.{octets_after}
-use Rattle.head_kit.specs.declared.called.Called.{Called}
-use Rattle.head_kit.specs.declared.called.Naming.{Naming}
-use Rattle.head_kit.specs.declared.called.Naming.TheVariants as naming
+use Rattle.head_kit.specs.declared.call_head.CallHead.{CallHead}
+use Rattle.head_kit.specs.declared.call_head.CallTarget.{CallTarget}
+use Rattle.head_kit.specs.declared.call_head.CallTarget.TheVariants as naming
 use Rattle.head_kit.specs.Calls.{HasHead}
 use Rattle.pres.specs.Bindings.{Binding}
 use Rattle.flick_engine.specs.declared.errors.MessageErr.{MessageErr}
@@ -32,7 +32,7 @@ module _ (b : Binding) (sound : (op : ℕ) → IsSound (request_type b op)) (o :
   Something = (x : Result Asked MessageErr) × ReadCall b o x
 
   -- a body that begins with a value's spelling
-  spelled : (c : Called) (op : ℕ) → Names b o c (naming.Operation op) → (a rest : List ℕ) (v : Val) → drop c.used o ≡ a ++ rest
+  spelled : (c : CallHead) (op : ℕ) → Names b o c (naming.Operation op) → (a rest : List ℕ) (v : Val) → drop c.used o ≡ a ++ rest
       → IsSpelling c.encoding (request_type b op) c.used a v → Something
   spelled c op names a [] v is spells = (
     Ok (record { op = op; head = c.head; value = v }),
@@ -58,14 +58,14 @@ module _ (b : Binding) (sound : (op : ℕ) → IsSound (request_type b op)) (o :
   )
 
   -- a body
-  body : (c : Called) (op : ℕ) → Names b o c (naming.Operation op)
+  body : (c : CallHead) (op : ℕ) → Names b o c (naming.Operation op)
       → BeginsSpelled c.encoding (request_type b op) c.used (drop c.used o)
       ⊎ HasFault c.encoding (request_type b op) c.used (drop c.used o) → Something
   body c op names (inl (a, rest, v, is, spells)) = spelled c op names a rest v is spells
   body c op names (inr (k, at, stops)) = (Err (err.Body (record { kind = k; at = at })), (c, op, names, stops))
 
   -- a call that names this
-  after : (c : Called) (n : Naming) → Names b o c n → Something
+  after : (c : CallHead) (n : CallTarget) → Names b o c n → Something
   after c naming.NoInterface names = (Err err.NoInterface, (c, names))
   after c naming.NoOperation names = (Err err.NoOperation, (c, names))
   after c (naming.Operation op) names =

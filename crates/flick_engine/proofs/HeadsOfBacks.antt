@@ -13,9 +13,9 @@ use Rattle.wire_def.specs.declared.head.Head.{Head}
 use Rattle.wire_def.specs.declared.head.Order.{Order}
 use Rattle.wire_def.specs.declared.head.Order.TheVariants.{Big, Little}
 use Rattle.wire_def.specs.Grammar.{AreOctets}
-use Rattle.head_kit.specs.declared.called.Called.{Called}
-use Rattle.head_kit.specs.declared.called.Naming.{Naming}
-use Rattle.head_kit.specs.declared.called.Naming.TheVariants.{Operation}
+use Rattle.head_kit.specs.declared.call_head.CallHead.{CallHead}
+use Rattle.head_kit.specs.declared.call_head.CallTarget.{CallTarget}
+use Rattle.head_kit.specs.declared.call_head.CallTarget.TheVariants.{Operation}
 use Rattle.head_kit.specs.Calls.{IsBelow, IsOneHead, HasHead}
 use Rattle.head_kit.proofs.Named.{pairs, named_by}
 use Rattle.aoi.specs.Plain.{PlainUnit, PlainInterface, PlainOperation}
@@ -99,18 +99,18 @@ same_length back.CdrLittle o long = length_sized Little o long
 same_length back.Mach o long = mach_sent.length_sized o (omega (arith, long))
 
 -- a head that is sent is received as what it says, and its body follows it
-pub record IsReceived (k : Back) (b : Binding) (m op : ℕ) (head : Head) (c : Called) : Type 0 where
+pub record IsReceived (k : Back) (b : Binding) (m op : ℕ) (head : Head) (c : CallHead) : Type 0 where
   pub begins : (rest : List ℕ) → MayFollow (has_body b op) rest → length (lead_over k b m op head ++ rest) ≤ longest_message
       → BeginsOver k b (sized k (lead_over k b m op head ++ rest)) c
   pub follows : (rest : List ℕ) → drop c.used (sized k (lead_over k b m op head ++ rest)) ≡ rest
   pub used : c.used ≡ length (lead_over k b m op head)
   pub encoding : c.encoding ≡ encoding k
 
-xdr_used : (b : Binding) (m op : ℕ) (head : Head) (c : Called) → SaysOver back.Xdr b m op head c → c.used
+xdr_used : (b : Binding) (m op : ℕ) (head : Head) (c : CallHead) → SaysOver back.Xdr b m op head c → c.used
     ≡ length (lead_over back.Xdr b m op head)
-xdr_used b m op head c (fits, words, is) = sym (ap (λ (x : Called). x.used) is)
+xdr_used b m op head c (fits, words, is) = sym (ap (λ (x : CallHead). x.used) is)
 
-module _ (m : ℕ) (r : Order) (b : Binding) (op : ℕ) (head : Head) (c : Called) (says : SaysByName m r b op head c) where
+module _ (m : ℕ) (r : Order) (b : Binding) (op : ℕ) (head : Head) (c : CallHead) (says : SaysByName m r b op head c) where
   abbrev asking : Request
   asking = request_of (target_of b op) head.id
 
@@ -125,22 +125,22 @@ module _ (m : ℕ) (r : Order) (b : Binding) (op : ℕ) (head : Head) (c : Calle
 
   cdr_follows : (rest : List ℕ) → drop c.used (with_size r (cdr_leads.lead m (has_body b op) r (target_of b op) head.id ++ rest)) ≡ rest
   cdr_follows rest =
-      ap (λ (x : Called). drop x.used (with_size r (cdr_leads.lead m (has_body b op) r (target_of b op) head.id ++ rest)))
+      ap (λ (x : CallHead). drop x.used (with_size r (cdr_leads.lead m (has_body b op) r (target_of b op) head.id ++ rest)))
       (sym says.2)
       ∙ follows_request m (has_body b op) r asking rest says.0 says.1
 
   cdr_used : c.used ≡ length (cdr_leads.lead m (has_body b op) r (target_of b op) head.id)
-  cdr_used = ap (λ (x : Called). x.used) (sym says.2)
+  cdr_used = ap (λ (x : CallHead). x.used) (sym says.2)
 
   cdr_encoding : c.encoding ≡ laid r
-  cdr_encoding = ap (λ (x : Called). x.encoding) (sym says.2)
+  cdr_encoding = ap (λ (x : CallHead). x.encoding) (sym says.2)
 
-received_over : (k : Back) (b : Binding) (m op : ℕ) (head : Head) (c : Called) → SaysOver k b m op head c → IsReceived k b m op head c
+received_over : (k : Back) (b : Binding) (m op : ℕ) (head : Head) (c : CallHead) → SaysOver k b m op head c → IsReceived k b m op head c
 received_over back.Xdr b m op head c (fits, words, is) = record {
   begins = λ rest body few. (call_of (procedure_of b op) head.id, leads_read (procedure_of b op) head.id rest fits words, is);
   follows = λ rest. drop_at (lead_over back.Xdr b m op head) rest c.used (sym (xdr_used b m op head c (fits, words, is)));
   used = xdr_used b m op head c (fits, words, is);
-  encoding = sym (ap (λ (x : Called). x.encoding) is);
+  encoding = sym (ap (λ (x : CallHead). x.encoding) is);
 }
 received_over back.CdrBig b m op head c says =
     record {
@@ -165,13 +165,13 @@ received_over back.Mach b m op head c (fits, ports, is) = record {
         mach_sent.requests_begin (routine_of b op) head rest fits ports (omega (arith, few)),
         is,
       );
-  follows = λ rest. ap (λ (x : Called). drop x.used (sized back.Mach (lead_over back.Mach b m op head ++ rest))) (sym is)
+  follows = λ rest. ap (λ (x : CallHead). drop x.used (sized back.Mach (lead_over back.Mach b m op head ++ rest))) (sym is)
       ∙ mach_sent.follows_request (routine_of b op) head rest;
-  used = ap (λ (x : Called). x.used) (sym is);
-  encoding = ap (λ (x : Called). x.encoding) (sym is);
+  used = ap (λ (x : CallHead). x.used) (sym is);
+  encoding = ap (λ (x : CallHead). x.encoding) (sym is);
 }
 
-pub received : (b : Binding) (m op : ℕ) (head : Head) (c : Called) → Says b m op head c → IsReceived b.back b m op head c
+pub received : (b : Binding) (m op : ℕ) (head : Head) (c : CallHead) → Says b m op head c → IsReceived b.back b m op head c
 received b m op head c says = received_over b.back b m op head c says
 
 -- ---- bindings of one unit
@@ -179,19 +179,19 @@ received b m op head c says = received_over b.back b m op head c says
 -- over this back end, the heads of one binding are sent and received as those of the other, and name operations that there are
 pub record AreAlike (k : Back) (b c : Binding) : Type 0 where
   pub leads : (m op : ℕ) (head : Head) → has_body b op ≡ has_body c op → lead_over k b m op head ≡ lead_over k c m op head
-  pub begins : (o : List ℕ) (x : Called) → BeginsOver k b o x → BeginsOver k c o x
-  pub below : (o : List ℕ) (x : Called) → BeginsOver k b o x → IsBelow (length b.ops) x.naming
+  pub begins : (o : List ℕ) (x : CallHead) → BeginsOver k b o x → BeginsOver k c o x
+  pub below : (o : List ℕ) (x : CallHead) → BeginsOver k b o x → IsBelow (length b.ops) x.naming
 
 -- what a call that names this says
-abbrev called_with : OncCall → Naming → Called
+abbrev called_with : OncCall → CallTarget → CallHead
 called_with k n = record { naming = n; head = k.head; encoding = encoding back.Xdr; used = k.used; minor = 0 }
 
 -- what a request that names this says
-abbrev reported_with : ReportedRequest → Naming → Called
+abbrev reported_with : ReportedRequest → CallTarget → CallHead
 reported_with t n = record { naming = n; head = t.head; encoding = laid t.head.order; used = t.used; minor = t.minor }
 
 -- what a request over Mach that names this says
-abbrev mach_with : MachCall → Naming → Called
+abbrev mach_with : MachCall → CallTarget → CallHead
 mach_with c n = record { naming = n; head = c.head; encoding = encoding back.Mach; used = c.used; minor = 0 }
 
 place_same : {A : Type 0} (xs ys : List A) (n : ℕ) (d : A) → xs ≡ ys → slice_index_or xs n d ≡ slice_index_or ys n d
@@ -204,17 +204,17 @@ module _ (b c : Binding) (units : b.unit ≡ c.unit) where
       let same : procedure_of b op ≡ procedure_of c op = place_same _ _ op _ (ap (λ (u : PlainUnit). procedures u.interfaces) units) in
       ap (λ p. xdr_leads.lead p head.id) same
 
-  xdr_begins : (o : List ℕ) (x : Called) → Calls b o x → Calls c o x
+  xdr_begins : (o : List ℕ) (x : CallHead) → Calls b o x → Calls c o x
   xdr_begins o x (call, begins, is) =
       let same : called b call ≡ called c call = ap (called_with call) (ap (λ (u : PlainUnit). named_from 0 u.interfaces call) units) in
       (call, begins, sym same ∙ is)
 
-  xdr_below : IsBinding b → b.back ≡ back.Xdr → (o : List ℕ) (x : Called) → Calls b o x → IsBelow (length b.ops) x.naming
+  xdr_below : IsBinding b → b.back ≡ back.Xdr → (o : List ℕ) (x : CallHead) → Calls b o x → IsBelow (length b.ops) x.naming
   xdr_below stands xdr o x (call, begins, is) =
       let all : 0 + length (procedures b.unit.interfaces) ≡ length b.ops = omega (arith, counted b stands xdr) in
       let below : IsBelow (length b.ops) (named b call) =
       subst (λ (n : ℕ). IsBelow n (named b call)) all (named_below 0 b.unit.interfaces call) in
-      subst (λ (y : Called). IsBelow (length b.ops) y.naming) is below
+      subst (λ (y : CallHead). IsBelow (length b.ops) y.naming) is below
 
   cdr_leads_alike : (r : Order) (m op : ℕ) (head : Head) → has_body b op ≡ has_body c op
       → cdr_leads.lead m (has_body b op) r (target_of b op) head.id ≡ cdr_leads.lead m (has_body c op) r (target_of c op) head.id
@@ -223,18 +223,18 @@ module _ (b c : Binding) (units : b.unit ≡ c.unit) where
       ap (λ (t : Target). cdr_leads.lead m (has_body b op) r t head.id) same
       ∙ ap (λ (x : Bool). cdr_leads.lead m x r (target_of c op) head.id) bodies
 
-  cdr_begins_alike : (o : List ℕ) (x : Called) → cdr_seeking.Calls b o x → cdr_seeking.Calls c o x
+  cdr_begins_alike : (o : List ℕ) (x : CallHead) → cdr_seeking.Calls b o x → cdr_seeking.Calls c o x
   cdr_begins_alike o x (t, begins, is) =
       let same : cdr_seeking.called b t ≡ cdr_seeking.called c t =
       ap (reported_with t) (ap (λ (u : PlainUnit). cdr_seeking.named_from 0 u.interfaces t.key t.name) units) in
       (t, begins, sym same ∙ is)
 
-  cdr_below : IsBinding b → IsCdr b.back → (o : List ℕ) (x : Called) → cdr_seeking.Calls b o x → IsBelow (length b.ops) x.naming
+  cdr_below : IsBinding b → IsCdr b.back → (o : List ℕ) (x : CallHead) → cdr_seeking.Calls b o x → IsBelow (length b.ops) x.naming
   cdr_below stands cdr o x (t, begins, is) =
       let all : 0 + length (targets b.unit.interfaces) ≡ length b.ops = omega (arith, cdr_counting.counted b stands cdr) in
       let below : IsBelow (length b.ops) (cdr_seeking.named b t) =
       subst (λ (n : ℕ). IsBelow n (cdr_seeking.named b t)) all (cdr_named.named_below 0 b.unit.interfaces t.key t.name) in
-      subst (λ (y : Called). IsBelow (length b.ops) y.naming) is below
+      subst (λ (y : CallHead). IsBelow (length b.ops) y.naming) is below
 
   cdr_is : (k : Back) → IsCdr k → b.back ≡ k → IsCdr b.back
   cdr_is k is of = subst IsCdr (sym of) is
@@ -244,18 +244,18 @@ module _ (b c : Binding) (units : b.unit ≡ c.unit) where
   mach_leads_alike m op head bodies =
       ap (λ r. mach_leads.lead r head) (place_same _ _ op no_routine (ap (λ (u : PlainUnit). routines u.interfaces) units))
 
-  mach_begins_alike : (o : List ℕ) (x : Called) → mach_seeking.Calls b o x → mach_seeking.Calls c o x
+  mach_begins_alike : (o : List ℕ) (x : CallHead) → mach_seeking.Calls b o x → mach_seeking.Calls c o x
   mach_begins_alike o x (call, begins, is) =
       let same : mach_seeking.called b call ≡ mach_seeking.called c call =
       ap (mach_with call) (ap (λ (u : PlainUnit). mach_seeking.named_from 0 u.interfaces call.id) units) in
       (call, begins, sym same ∙ is)
 
-  mach_below : IsBinding b → b.back ≡ back.Mach → (o : List ℕ) (x : Called) → mach_seeking.Calls b o x → IsBelow (length b.ops) x.naming
+  mach_below : IsBinding b → b.back ≡ back.Mach → (o : List ℕ) (x : CallHead) → mach_seeking.Calls b o x → IsBelow (length b.ops) x.naming
   mach_below stands mach o x (call, begins, is) =
       let all : 0 + length (routines b.unit.interfaces) ≡ length b.ops = omega (arith, mach_counting.counted b stands mach) in
       let below : IsBelow (length b.ops) (mach_seeking.named b call) =
       subst (λ (n : ℕ). IsBelow n (mach_seeking.named b call)) all (mach_named.named_below 0 b.unit.interfaces call.id) in
-      subst (λ (y : Called). IsBelow (length b.ops) y.naming) is below
+      subst (λ (y : CallHead). IsBelow (length b.ops) y.naming) is below
 
   alike_over : (k : Back) → IsBinding b → b.back ≡ k → AreAlike k b c
   alike_over back.Xdr stands of = record { leads = xdr_leads_alike; begins = xdr_begins; below = xdr_below stands of }
@@ -301,14 +301,14 @@ xdr_procedures (i ∷ is) =
     ∙ ap (λ (l : List Procedure). map procedure_at (with_interface i) ++ l) (xdr_procedures is)
     ∙ sym (map-append procedure_at (with_interface i) (operations_in back.Xdr is))
 
-xdr_asked : (b : Binding) (o : List ℕ) (x : Called) (op : ℕ) → Calls b o x → x.naming ≡ Operation op → IsAskedOver back.Xdr b o op
+xdr_asked : (b : Binding) (o : List ℕ) (x : CallHead) (op : ℕ) → Calls b o x → x.naming ≡ Operation op → IsAskedOver back.Xdr b o op
 xdr_asked b o x op (call, begins, is) names =
     let ps : List Procedure = procedures b.unit.interfaces in
-    let same : named b call ≡ Operation op = ap (λ (y : Called). y.naming) is ∙ names in
+    let same : named b call ≡ Operation op = ap (λ (y : CallHead). y.naming) is ∙ names in
     let all : 0 + length ps ≡ length ps = omega arith in
     let within : IsBelow (length ps) (named b call) =
     subst (λ (n : ℕ). IsBelow n (named b call)) all (named_below 0 b.unit.interfaces call) in
-    let below : op < length ps = subst (λ (n : Naming). IsBelow (length ps) n) same within in
+    let below : op < length ps = subst (λ (n : CallTarget). IsBelow (length ps) n) same within in
     let there : slice_get ps op ≡ Some (procedure_of b op) = slice_get-get_or ps op no_procedure below in
     let (q, stands, of) = placed procedure_at (operations_in back.Xdr b.unit.interfaces) op (procedure_of b op)
     (ap (λ (l : List Procedure). slice_get l op) (sym (xdr_procedures b.unit.interfaces)) ∙ there) in
@@ -321,10 +321,10 @@ cdr_pairs k cdr (i ∷ is) =
     ap (λ (ps : List PlainOperation). map (λ (p : PlainOperation). (i, p)) ps ++ operations_in k is) (own_alone k i cdr)
     ∙ ap (λ (l : List (PlainInterface × PlainOperation)). map (λ (p : PlainOperation). (i, p)) i.ops ++ l) (cdr_pairs k cdr is)
 
-cdr_asked : (k : Back) → IsCdr k → (b : Binding) (o : List ℕ) (x : Called) (op : ℕ) → cdr_seeking.Calls b o x → x.naming ≡ Operation op
+cdr_asked : (k : Back) → IsCdr k → (b : Binding) (o : List ℕ) (x : CallHead) (op : ℕ) → cdr_seeking.Calls b o x → x.naming ≡ Operation op
     → (i : PlainInterface) × (p : PlainOperation) × (slice_get (operations_in k b.unit.interfaces) op ≡ Some (i, p)) × AsksByName i p o
 cdr_asked k cdr b o x op (t, begins, is) names =
-    let same : cdr_seeking.named b t ≡ Operation op = ap (λ (y : Called). y.naming) is ∙ names in
+    let same : cdr_seeking.named b t ≡ Operation op = ap (λ (y : CallHead). y.naming) is ∙ names in
     let (n, i, p, at, there, called_i, has_p) =
     named_by ops_of (cdr_seeking.has_key t.key) (λ j. cdr_seeking.has_name t.name) 0 b.unit.interfaces op same in
     let key = (bytes_eq-Decides i.name t.key).0 called_i in
@@ -344,10 +344,10 @@ mach_own (i ∷ is) =
     ap (λ (ps : List PlainOperation). map (λ (p : PlainOperation). (i, p)) ps ++ operations_in back.Mach is) (mach_counting.own_alone i)
     ∙ ap (λ (l : List (PlainInterface × PlainOperation)). map (λ (p : PlainOperation). (i, p)) i.ops ++ l) (mach_own is)
 
-mach_asked : (b : Binding) (o : List ℕ) (x : Called) (op : ℕ) → mach_seeking.Calls b o x → x.naming ≡ Operation op
+mach_asked : (b : Binding) (o : List ℕ) (x : CallHead) (op : ℕ) → mach_seeking.Calls b o x → x.naming ≡ Operation op
     → IsAskedOver back.Mach b o op
 mach_asked b o x op (call, begins, is) names =
-    let same : mach_seeking.named b call ≡ Operation op = ap (λ (y : Called). y.naming) is ∙ names in
+    let same : mach_seeking.named b call ≡ Operation op = ap (λ (y : CallHead). y.naming) is ∙ names in
     let (n, i, p, at, there, called_i, has_p) =
     named_by mach_ops (mach_seeking.has_id call.id) (mach_seeking.is_asked call.id) 0 b.unit.interfaces op same in
     let id : i.base + p.slot ≡ call.id = eqb-true _ _ has_p in
@@ -360,7 +360,7 @@ mach_asked b o x op (call, begins, is) names =
       (call, begins, id),
     )
 
-asked_over : (k : Back) (b : Binding) (o : List ℕ) (x : Called) (op : ℕ) → BeginsOver k b o x → x.naming ≡ Operation op
+asked_over : (k : Back) (b : Binding) (o : List ℕ) (x : CallHead) (op : ℕ) → BeginsOver k b o x → x.naming ≡ Operation op
     → IsAskedOver k b o op
 asked_over back.Xdr b o x op begins names = xdr_asked b o x op begins names
 asked_over back.CdrBig b o x op begins names = cdr_asked back.CdrBig refl b o x op begins names
@@ -368,5 +368,5 @@ asked_over back.CdrLittle b o x op begins names = cdr_asked back.CdrLittle refl 
 asked_over back.Mach b o x op begins names = mach_asked b o x op begins names
 
 -- the operation that a message names is one of the unit, which it asks for
-pub asked_for : (b : Binding) (o : List ℕ) (x : Called) (op : ℕ) → Begins b o x → x.naming ≡ Operation op → IsAskedOver b.back b o op
+pub asked_for : (b : Binding) (o : List ℕ) (x : CallHead) (op : ℕ) → Begins b o x → x.naming ≡ Operation op → IsAskedOver b.back b o op
 asked_for b o x op begins names = asked_over b.back b o x op begins names

@@ -18,7 +18,7 @@ use Rattle.back_xdr.specs.Leads as xdr_leads
 use Rattle.back_xdr.specs.Reply as xdr_reply
 use Rattle.back_xdr.specs.Reported as xdr_reported
 use Rattle.back_xdr.proofs.Lawful as xdr_lawful
-use Rattle.giop_head.specs.declared.header.Way.TheVariants.{Replies}
+use Rattle.giop_head.specs.declared.header.HeadKind.TheVariants.{Replies}
 use Rattle.head_kit.specs.Readers.{Tells}
 use Rattle.giop_head.specs.Heads as giop
 use Rattle.giop_head.specs.Items.{laid}
@@ -52,7 +52,7 @@ HasReply Begins Stops = ((t : Heard) × Begins t) ⊎ ((e : HeadErr) × Stops e)
 
 module _ (b : Binding) (op : ℕ) (o : List ℕ) where
   -- ONC
-  abbrev onc_way : xdr.Way
+  abbrev onc_way : xdr.HeadKind
   onc_way = xdr.reply (exceptions b op)
 
   xdr_viewed : xdr_reply.Reply → ℕ → Heard
@@ -98,7 +98,7 @@ module _ (b : Binding) (op : ℕ) (o : List ℕ) where
   giop_found (inr (e, stops)) = inr (e, stops)
 
   -- Mach
-  abbrev way : mach.Way
+  abbrev way : mach.HeadKind
   way = mach.reply (reply_id b op) (exceptions b op)
 
   mach_one : (t u : Heard) → RepliesOver back.Mach b op o t → RepliesOver back.Mach b op o u → t ≡ u

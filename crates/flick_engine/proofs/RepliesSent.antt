@@ -10,7 +10,7 @@ use Rattle.pres.specs.Bindings.{Binding}
 use Rattle.head_arms.specs.Raised.{exceptions}
 use Rattle.back_xdr.specs.Leads as onc_leads
 use Rattle.back_xdr.proofs.Sent as onc_sent
-use Rattle.giop_head.specs.declared.header.Way.TheVariants.{Replies}
+use Rattle.giop_head.specs.declared.header.HeadKind.TheVariants.{Replies}
 use Rattle.giop_head.specs.Heads as giop
 use Rattle.giop_head.specs.Items.{laid}
 use Rattle.giop_head.specs.Laws.{reply_octets}

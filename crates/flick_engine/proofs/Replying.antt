@@ -10,7 +10,7 @@ use Rattle.wire_def.specs.declared.fault.HeadErr.{HeadErr}
 use Rattle.wire_def.specs.declared.head.Head.{Head}
 use Rattle.wire_def.specs.declared.head.Order.{Order}
 use Rattle.wire_def.specs.declared.outcome.Refusal.{Refusal}
-use Rattle.head_kit.specs.declared.called.Called.{Called}
+use Rattle.head_kit.specs.declared.call_head.CallHead.{CallHead}
 use Rattle.pres.specs.declared.ops.Op.{Op}
 use Rattle.pres.specs.Bindings.{Binding}
 use Rattle.giop_head.specs.Header.{IsMinor}
@@ -69,25 +69,25 @@ module _ (b : Binding) (m : ℕ) (work : ℕ → Val → Val → Type 0) (o : Li
       IfOk-weaker r (λ s. AnswersFault b.back m b o e (reply_in s d)) (λ s. Serves b m work o (reply_in s d)) (λ s a.
       inr (inl (short, e, stops, a))) h
 
-  pub begun : {E : Type 0} (r : Result Served E) (d : List ℕ) (c : Called) → IsShort o → Begins b o c
+  pub begun : {E : Type 0} (r : Result Served E) (d : List ℕ) (c : CallHead) → IsShort o → Begins b o c
       → IfOk r (λ s. ServesCall b work o c (reply_in s d)) → IfOk r (λ s. Serves b m work o (reply_in s d))
   begun r d c short begins h =
       IfOk-weaker r (λ s. ServesCall b work o c (reply_in s d)) (λ s. Serves b m work o (reply_in s d)) (λ s a.
       inr (inr (short, c, begins, a))) h
 
-  pub answered : (c : Called) (x : Option (List ℕ)) (t : Bool) → is_answered b c ≡ t → t ≡ true → AnswersCall b work o c x
+  pub answered : (c : CallHead) (x : Option (List ℕ)) (t : Bool) → is_answered b c ≡ t → t ≡ true → AnswersCall b work o c x
       → ServesCall b work o c x
   answered c x t is shown h = subst (λ (z : Bool). MatchBool z (AnswersCall b work o c x) (x ≡ None)) (sym (is ∙ shown)) h
 
-  pub unanswered : (c : Called) (t : Bool) → is_answered b c ≡ t → t ≡ false → ServesCall b work o c silence
+  pub unanswered : (c : CallHead) (t : Bool) → is_answered b c ≡ t → t ≡ false → ServesCall b work o c silence
   unanswered c t is shown = subst (λ (z : Bool). MatchBool z (AnswersCall b work o c silence) (silence ≡ silence)) (sym (is ∙ shown)) refl
 
-  pub refused : {A E : Type 0} (r : Result A E) (c : Called) (e : MessageErr) (x : Option (List ℕ))
+  pub refused : {A E : Type 0} (r : Result A E) (c : CallHead) (e : MessageErr) (x : Option (List ℕ))
       → OnOk r (RefusesCall b c.minor o (reply_head b.back c.head) e x) → OnOk r (ReadCall b o (Err e)) → OnOk r (AnswersCall b work o c x)
   refused (Ok u) c e x refuses reads = (Err e, reads, refuses)
   refused (Err n) c e x refuses reads = tt
 
-  pub requested : {A E : Type 0} (r : Result A E) (c : Called) (q : Request) (x : Option (List ℕ)) → Answers b o (Ok q)
+  pub requested : {A E : Type 0} (r : Result A E) (c : CallHead) (q : Request) (x : Option (List ℕ)) → Answers b o (Ok q)
       → OnOk r (AnswersAs b c.minor work o (reply_head b.back c.head) (Ok (asked q)) x) → OnOk r (AnswersCall b work o c x)
   requested (Ok u) c q x is answers = (Ok (asked q), (is (Ok (asked q))).0 refl, answers)
   requested (Err n) c q x is answers = tt

@@ -7,11 +7,11 @@ use Rattle.wire_def.specs.declared.fault.HeadErr.{HeadErr}
 use Rattle.wire_def.specs.declared.head.Head.{Head}
 use Rattle.wire_def.specs.declared.head.Order.{Order}
 use Rattle.wire_def.specs.declared.head.Order.TheVariants.{Big, Little}
-use Rattle.head_kit.specs.declared.called.Called.{Called}
+use Rattle.head_kit.specs.declared.call_head.CallHead.{CallHead}
 use Rattle.pres.specs.Bindings.{Binding}
 use Rattle.back_xdr.specs.declared.call.OncCall.{OncCall}
 use Rattle.back_xdr.specs.Reported as onc
-use Rattle.giop_head.specs.declared.header.Way.TheVariants.{Asks, Requests}
+use Rattle.giop_head.specs.declared.header.HeadKind.TheVariants.{Asks, Requests}
 use Rattle.giop_head.specs.Heads.{StopsWith}
 use Rattle.giop_head.specs.Printed.{header_octets, then_long}
 use Rattle.giop_head.specs.Reported.{requested, BeginsCall}
@@ -27,13 +27,13 @@ ok_or_err r x e good bad = cc (sym good ∙ bad)
 
 -- ---- calls of which more is read
 
-pub onc_call : (b : Binding) (o : List ℕ) (c : Called) (r : Result OncCall HeadErr) → b.back ≡ back.Xdr → Begins b o c
+pub onc_call : (b : Binding) (o : List ℕ) (c : CallHead) (r : Result OncCall HeadErr) → b.back ≡ back.Xdr → Begins b o c
     → ((call : OncCall) → (r ≡ Ok call) ↔ onc.BeginsCall o call) → (call : OncCall) × (r ≡ Ok call)
 onc_call b o c r is begins spells =
     let (call, starts, reported) = subst (λ (k : Back). BeginsOver k b o c) is begins in
     (call, (spells call).1 starts)
 
-pub mach_call : (b : Binding) (o : List ℕ) (c : Called) (r : Result MachCall HeadErr) → b.back ≡ back.Mach → Begins b o c
+pub mach_call : (b : Binding) (o : List ℕ) (c : CallHead) (r : Result MachCall HeadErr) → b.back ≡ back.Mach → Begins b o c
     → ((call : MachCall) → (r ≡ Ok call) ↔ mach.BeginsCall o call) → (call : MachCall) × (r ≡ Ok call)
 mach_call b o c r is begins spells =
     let (call, starts, reported) = subst (λ (k : Back). BeginsOver k b o c) is begins in

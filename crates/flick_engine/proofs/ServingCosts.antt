@@ -8,7 +8,7 @@ use Rattle.wire_def.specs.declared.head.Head.{Head}
 use Rattle.raw_buf.specs.declared.tally.Tally.{Tally}
 use Rattle.raw_buf.specs.Buf.{Buf}
 use Rattle.raw_buf.specs.View.{View}
-use Rattle.head_kit.specs.declared.called.Called.{Called}
+use Rattle.head_kit.specs.declared.call_head.CallHead.{CallHead}
 use Rattle.stub_codes.specs.Stubs.{Coded}
 use Rattle.flick_engine.specs.declared.errors.MessageErr.{MessageErr}
 use Rattle.flick_engine.specs.declared.requests.Request.{Request}
@@ -34,13 +34,13 @@ unshown t is not = cc
 
 module _ (x : Coded) (work : ℕ → Val → Val → Type 0) (o : List ℕ) (answer : Option (List ℕ)) (spent : Tally) (new : Buf) where
   -- a call that is refused is not a request
-  pub refused_at : {A E : Type 0} (y : Result A E) (c : Called) (e : MessageErr) → OnOk y (ReadCall x.binding o (Err e))
+  pub refused_at : {A E : Type 0} (y : Result A E) (c : CallHead) (e : MessageErr) → OnOk y (ReadCall x.binding o (Err e))
       → OnOk y (AnswersCallByCode x work o c answer spent new)
   refused_at (Ok u) c e reads = λ r is. absurd (no_request e r (Err e) refl (determined x.binding o (Err e) (Ok r) reads is))
   refused_at (Err n) c e reads = tt
 
   -- a call that is a request
-  pub requested_at : {A E : Type 0} (y : Result A E) (c : Called) (q : Request) → Answers x.binding o (Ok q)
+  pub requested_at : {A E : Type 0} (y : Result A E) (c : CallHead) (q : Request) → Answers x.binding o (Ok q)
       → OnOk y (AnswersByCode x c.minor work o (reply_head x.binding.back c.head) (asked q) answer spent new)
       → OnOk y (AnswersCallByCode x work o c answer spent new)
   requested_at (Ok u) c q is h =
@@ -50,13 +50,13 @@ module _ (x : Coded) (work : ℕ → Val → Val → Type 0) (o : List ℕ) (ans
   requested_at (Err n) c q is h = tt
 
   -- a call that is answered
-  pub answered_at : (c : Called) → Begins x.binding o c → AnswersCallByCode x work o c answer spent new
+  pub answered_at : (c : CallHead) → Begins x.binding o c → AnswersCallByCode x work o c answer spent new
       → ServesByCode x work o answer spent new
   answered_at c begins h d starts is =
-      subst (λ (y : Called). AnswersCallByCode x work o y answer spent new) ((one_head x.binding o).one_head c d begins starts) h
+      subst (λ (y : CallHead). AnswersCallByCode x work o y answer spent new) ((one_head x.binding o).one_head c d begins starts) h
 
   -- a call that is not
-  pub unanswered_at : (c : Called) → Begins x.binding o c → is_answered x.binding c ≡ false → ServesByCode x work o answer spent new
+  pub unanswered_at : (c : CallHead) → Begins x.binding o c → is_answered x.binding c ≡ false → ServesByCode x work o answer spent new
   unanswered_at c begins not d starts is =
       let same = (one_head x.binding o).one_head c d begins starts in
       absurd (unshown (is_answered x.binding d) is (ap (is_answered x.binding) (sym same) ∙ not))

@@ -12,7 +12,7 @@ use Rattle.wire_def.specs.declared.head.Order.{Order}
 use Rattle.wire_def.specs.declared.head.Order.TheVariants.{Big, Little}
 use Rattle.wire_def.specs.declared.outcome.Refusal.{Refusal}
 use Rattle.wire_def.specs.Grammar.{AreOctets}
-use Rattle.head_kit.specs.declared.called.Called.{Called}
+use Rattle.head_kit.specs.declared.call_head.CallHead.{CallHead}
 use Rattle.head_kit.specs.Calls.{HasHead}
 use Rattle.pres.specs.Bindings.{Binding}
 use Rattle.back_xdr.specs.declared.call.OncCall.{OncCall}
@@ -20,7 +20,7 @@ use Rattle.back_xdr.specs.Call.{Call as OncHead}
 use Rattle.back_xdr.specs.Heads as onc_heads
 use Rattle.back_xdr.specs.Reported as onc
 use Rattle.back_xdr.proofs.Lawful as onc_lawful
-use Rattle.giop_head.specs.declared.header.Way.TheVariants.{Asks, Requests}
+use Rattle.giop_head.specs.declared.header.HeadKind.TheVariants.{Asks, Requests}
 use Rattle.giop_head.specs.Call.{Call, addressing, request, search_for}
 use Rattle.giop_head.specs.Heads.{BeginsWith, StopsWith}
 use Rattle.giop_head.specs.Reported.{ReportedCall, addressed, shared_head, sought, call_reported, BeginsCall}
@@ -151,13 +151,13 @@ module _ (b : Binding) (work : ℕ → Val → Val) (o : List ℕ) where
       let same : u ≡ w = is' ∙ sym is in
       replied_once m head r.op w x y replies (subst (λ (z : Val). Replies b m o head r.op z y) same replies')
 
-  answered_once : (c : Called) (x y : Option (List ℕ)) → AnswersCall b (gives work) o c x → AnswersCall b (gives work) o c y → x ≡ y
+  answered_once : (c : CallHead) (x y : Option (List ℕ)) → AnswersCall b (gives work) o c x → AnswersCall b (gives work) o c y → x ≡ y
   answered_once c x y (r, reads, answers) (s, reads', answers') =
       let same : s ≡ r = determined b o s r reads' reads in
       answered_as c.minor (reply_head b.back c.head) r x y answers
       (subst (λ (z : Result Asked MessageErr). AnswersAs b c.minor (gives work) o (reply_head b.back c.head) z y) same answers')
 
-  called_once : (t : Bool) (c : Called) (x y : Option (List ℕ)) → MatchBool t (AnswersCall b (gives work) o c x) (x ≡ None)
+  called_once : (t : Bool) (c : CallHead) (x y : Option (List ℕ)) → MatchBool t (AnswersCall b (gives work) o c x) (x ≡ None)
       → MatchBool t (AnswersCall b (gives work) o c y) (y ≡ None) → x ≡ y
   called_once true c x y h g = answered_once c x y h g
   called_once false c x y h g = h ∙ sym g
@@ -177,7 +177,7 @@ module _ (b : Binding) (work : ℕ → Val → Val) (o : List ℕ) where
       absurd ((one_head b o).not_both c e begins stops)
   once m x y (inr (inr (short, c, begins, serves))) (inr (inr (short', d, begins', serves'))) =
       let same : d ≡ c = (one_head b o).one_head d c begins' begins in
-      called_once (is_answered b c) c x y serves (subst (λ (z : Called). ServesCall b (gives work) o z y) same serves')
+      called_once (is_answered b c) c x y serves (subst (λ (z : CallHead). ServesCall b (gives work) o z y) same serves')
 
 pub served_once : IsServingDetermined
 served_once b m work o x y h g = once b work o m x y h g
@@ -201,20 +201,20 @@ fault_somehow back.CdrBig m b o oct e stops = asked_somehow m Big b o (giop_lawf
 fault_somehow back.CdrLittle m b o oct e stops = asked_somehow m Little b o (giop_lawful.heads_are_decided Asks o oct).either e stops
 fault_somehow back.Mach m b o oct e stops = (_, refl)
 
-reason_over : (k : Back) (b : Binding) (o : List ℕ) (c : Called) → BeginsOver k b o c → (w : Refusal) × NoInterfaceOver k b o w
+reason_over : (k : Back) (b : Binding) (o : List ℕ) (c : CallHead) → BeginsOver k b o c → (w : Refusal) × NoInterfaceOver k b o w
 reason_over back.Xdr b o c (call, begins, reported) = (_, (call, begins, refl))
 reason_over back.CdrBig b o c begins = (_, refl)
 reason_over back.CdrLittle b o c begins = (_, refl)
 reason_over back.Mach b o c begins = (_, refl)
 
-refusal_over : (k : Back) (m : ℕ) (b : Binding) (o : List ℕ) (c : Called) → BeginsOver k b o c → (head : Head) (w : Refusal)
+refusal_over : (k : Back) (m : ℕ) (b : Binding) (o : List ℕ) (c : CallHead) → BeginsOver k b o c → (head : Head) (w : Refusal)
     → (x : Option (List ℕ)) × RefusesOver k m o head w x
 refusal_over back.Xdr m b o c begins head w = (_, refl)
 refusal_over back.CdrBig m b o c begins head w = (_, refl)
 refusal_over back.CdrLittle m b o c begins head w = (_, refl)
 refusal_over back.Mach m b o c (call, begins, reported) head w = (_, (call, begins, refl))
 
-module _ (b : Binding) (work : ℕ → Val → Val) (o : List ℕ) (c : Called) (begins : Begins b o c) where
+module _ (b : Binding) (work : ℕ → Val → Val) (o : List ℕ) (c : CallHead) (begins : Begins b o c) where
   reason : (e : MessageErr) → (w : Refusal) × IsRefused b o e w
   reason err.NoInterface = reason_over b.back b o c begins
   reason err.NoOperation = (_, refl)

@@ -10,7 +10,7 @@ use Rattle.wire_def.specs.declared.head.Order.{Order}
 use Rattle.wire_def.specs.declared.head.Order.TheVariants.{Big, Little}
 use Rattle.wire_def.specs.declared.reply.ReplyHead.{ReplyHead}
 use Rattle.head_arms.specs.Arms.{arm_status}
-use Rattle.head_kit.specs.declared.called.Called.{Called}
+use Rattle.head_kit.specs.declared.call_head.CallHead.{CallHead}
 use Rattle.aoi.specs.Plain.{PlainInterface, PlainOperation}
 use Rattle.pres.specs.Bindings.{Binding}
 use Rattle.head_arms.specs.Raised.{exceptions}
@@ -23,7 +23,7 @@ use Rattle.back_xdr.specs.Seeking as xdr_seeking
 use Rattle.back_xdr.specs.Reported as xdr_reported
 use Rattle.back_xdr.specs.Reported.{BeginsCall}
 use Rattle.head_kit.specs.Words.{IsWord}
-use Rattle.giop_head.specs.declared.header.Way.TheVariants.{Requests, Replies}
+use Rattle.giop_head.specs.declared.header.HeadKind.TheVariants.{Requests, Replies}
 use Rattle.giop_head.specs.Call.{Request}
 use Rattle.giop_head.specs.Header.{IsMinor}
 use Rattle.giop_head.specs.Heads as giop
@@ -111,12 +111,12 @@ reported_of m body r t id = record {
 }
 
 -- the head of a request in a version and in this order says this
-abbrev pub SaysByName : ℕ → Order → Binding → ℕ → Head → Called → Type 0
+abbrev pub SaysByName : ℕ → Order → Binding → ℕ → Head → CallHead → Type 0
 SaysByName m r b op head c = IsMinor m × IsRequest (request_of (target_of b op) head.id)
     × (cdr_seeking.called b (reported_of m (has_body b op) r (target_of b op) head.id) ≡ c)
 
 -- the head of an operation's call over a back end, in a version, whose numbers fit, says this
-abbrev pub SaysOver : Back → Binding → ℕ → ℕ → Head → Called → Type 0
+abbrev pub SaysOver : Back → Binding → ℕ → ℕ → Head → CallHead → Type 0
 SaysOver back.Xdr b m op head c = IsWord head.id × AreWords (procedure_of b op)
     × (xdr_seeking.called b (call_of (procedure_of b op) head.id) ≡ c)
 SaysOver back.CdrBig b m op head c = SaysByName m Big b op head c
@@ -125,7 +125,7 @@ SaysOver back.Mach b m op head c = IsWord (routine_of b op).id × HasPorts head
     × (mach_seeking.called b (mach_laws.call_of (routine_of b op) head) ≡ c)
 
 -- the head of an operation's call, whose numbers fit, says this
-abbrev pub Says : Binding → ℕ → ℕ → Head → Called → Type 0
+abbrev pub Says : Binding → ℕ → ℕ → Head → CallHead → Type 0
 Says b m op head c = SaysOver b.back b m op head c
 
 -- ---- the heads of replies that are received

@@ -10,7 +10,7 @@ use Rattle.cast_stub.specs.Got.{got_by, given}
 use Rattle.cast_stub.specs.Meaning.{Cost}
 use Rattle.stub_machine.specs.Sending.{paid}
 use Rattle.stub_receiver.specs.Ran.{place_of}
-use Rattle.head_kit.specs.declared.called.Called.{Called}
+use Rattle.head_kit.specs.declared.call_head.CallHead.{CallHead}
 use Rattle.skeleton.specs.Exchanges.{request_type}
 use Rattle.stub_codes.specs.Backs.{Begins, encoding}
 use Rattle.stub_codes.specs.declared.stub.Stub.{Stub}
@@ -55,7 +55,7 @@ after_head used v = record { octets = v.octets; pos = used; near = max used v.ne
 -- head and those of a run of the operation's code over the octets after it, which gives this value
 abbrev pub IsReadByCode : Coded → ℕ → Val → View → View → Type 0
 IsReadByCode x op v old new =
-    (c : Called) × Begins x.binding old.octets c
+    (c : CallHead) × Begins x.binding old.octets c
     × ((c.encoding ≡ encoding x.binding.back) → (s : Stub) × (slice_get x.stubs op ≡ Some s)
     × (got_by s.recv (request_type x.binding op) (place_of (after_head c.used old)) ≡ given v new.pos new.tests)
     × (new.pos ≡ length old.octets))

@@ -5,8 +5,8 @@ use Rattle.mint.specs.Typed.{IsWellTyped}
 use Rattle.mint.specs.Values.{Val, arm}
 use Rattle.wire_def.specs.declared.head.Head.{Head}
 use Rattle.wire_def.specs.Grammar.{AreOctets}
-use Rattle.head_kit.specs.declared.called.Called.{Called}
-use Rattle.head_kit.specs.declared.called.Naming.TheVariants.{Operation}
+use Rattle.head_kit.specs.declared.call_head.CallHead.{CallHead}
+use Rattle.head_kit.specs.declared.call_head.CallTarget.TheVariants.{Operation}
 use Rattle.aoi.specs.Plain.{PlainInterface, PlainOperation}
 use Rattle.pres.specs.Bindings.{Binding, IsBinding}
 use Rattle.pres.specs.Faces.{type_of}
@@ -33,7 +33,7 @@ IsSomething = (b : Binding) → ((op : ℕ) → IsSound (request_type b op))
 
 -- the message of an operation that its call names is read as the request
 abbrev pub IsReadBack : Type 0
-IsReadBack = (b : Binding) (m op : ℕ) (head : Head) (v : Val) (c : Called) → Says b m op head c → c.naming ≡ Operation op
+IsReadBack = (b : Binding) (m op : ℕ) (head : Head) (v : Val) (c : CallHead) → Says b m op head c → c.naming ≡ Operation op
     → IsWellTyped (request_type b op) v → IsShort (message b m op head v)
     → ReadCall b (message b m op head v) (Ok (record { op = op; head = c.head; value = v }))
 
@@ -44,7 +44,7 @@ AreTheUnits = (b : Binding) (op : ℕ) → IsBinding b → op < length b.ops
 
 -- the operation that a message names is the one of the unit that its head asks for
 abbrev pub AreAskedFor : Type 0
-AreAskedFor = (b : Binding) (o : List ℕ) (c : Called) (op : ℕ) → Begins b o c → c.naming ≡ Operation op
+AreAskedFor = (b : Binding) (o : List ℕ) (c : CallHead) (op : ℕ) → Begins b o c → c.naming ≡ Operation op
     → (i : PlainInterface) × (p : PlainOperation) × IsOperation b op i p × AsksFor b.back i p o
 
 -- what comes back from an operation is what its unit has: the answer or an exception of the one of the number

@@ -6,9 +6,9 @@ use Rattle.wire_def.specs.declared.head.Head.{Head}
 use Rattle.wire_def.specs.Spells.{IsSpelling}
 use Rattle.wire_def.specs.Stops as bodies
 use Rattle.plain_wire.specs.Answered.{FirstSpell}
-use Rattle.head_kit.specs.declared.called.Called.{Called}
-use Rattle.head_kit.specs.declared.called.Naming.{Naming}
-use Rattle.head_kit.specs.declared.called.Naming.TheVariants.{Operation, NoInterface, NoOperation}
+use Rattle.head_kit.specs.declared.call_head.CallHead.{CallHead}
+use Rattle.head_kit.specs.declared.call_head.CallTarget.{CallTarget}
+use Rattle.head_kit.specs.declared.call_head.CallTarget.TheVariants.{Operation, NoInterface, NoOperation}
 use Rattle.pres.specs.Bindings.{Binding}
 use Rattle.flick_engine.specs.declared.requests.Request.{Request}
 use Rattle.flick_engine.specs.declared.errors.MessageErr.{MessageErr}
@@ -27,19 +27,19 @@ abbrev pub IsShort : List ℕ → Type 0
 IsShort o = length o ≤ longest_message
 
 -- the octets begin with the head of a call that names this
-abbrev pub Names : Binding → List ℕ → Called → Naming → Type 0
+abbrev pub Names : Binding → List ℕ → CallHead → CallTarget → Type 0
 Names b o c n = IsShort o × Begins b o c × (c.naming ≡ n)
 
 -- they begin with the head of a call that names an operation, and there is this after the head
-abbrev pub Calls : Binding → List ℕ → (Called → ℕ → Type 0) → Type 0
-Calls b o After = (c : Called) × (op : ℕ) × Names b o c (Operation op) × After c op
+abbrev pub Calls : Binding → List ℕ → (CallHead → ℕ → Type 0) → Type 0
+Calls b o After = (c : CallHead) × (op : ℕ) × Names b o c (Operation op) × After c op
 
 -- what a message is: the first of these that holds. Places are counted from its first octet.
 abbrev pub ReadCall : Binding → List ℕ → Result Asked MessageErr → Type 0
 ReadCall b o (Err err.Long) = longest_message < length o
 ReadCall b o (Err (err.Head e)) = IsShort o × Stops b.back o e
-ReadCall b o (Err err.NoInterface) = (c : Called) × Names b o c NoInterface
-ReadCall b o (Err err.NoOperation) = (c : Called) × Names b o c NoOperation
+ReadCall b o (Err err.NoInterface) = (c : CallHead) × Names b o c NoInterface
+ReadCall b o (Err err.NoOperation) = (c : CallHead) × Names b o c NoOperation
 -- the octets after the head stop with the fault
 ReadCall b o (Err (err.Body f)) = Calls b o (λ c op. bodies.Stops c.encoding (request_type b op) c.used (drop c.used o) f.kind f.at)
 -- they begin with a value's, and others follow at the place

@@ -17,7 +17,7 @@ use Rattle.pres.specs.Bindings.{Binding}
 use Rattle.back_xdr.specs.declared.call.OncCall.{OncCall}
 use Rattle.back_xdr.specs.Refusals as xdr
 use Rattle.back_xdr.specs.Reported as xdr_reported
-use Rattle.giop_head.specs.declared.header.Way.TheVariants.{Asks}
+use Rattle.giop_head.specs.declared.header.HeadKind.TheVariants.{Asks}
 use Rattle.giop_head.specs.Heads.{StopsWith}
 use Rattle.giop_head.specs.Items.{flag}
 use Rattle.giop_head.specs.Printed as giop

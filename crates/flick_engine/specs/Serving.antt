@@ -7,9 +7,9 @@ use Rattle.wire_def.specs.declared.head.Head.{Head}
 use Rattle.wire_def.specs.declared.outcome.Refusal.{Refusal}
 use Rattle.raw_buf.specs.declared.tally.Tally.{Tally}
 use Rattle.raw_buf.specs.Buf.{Buf}
-use Rattle.head_kit.specs.declared.called.Called.{Called}
-use Rattle.head_kit.specs.declared.called.Naming.{Naming}
-use Rattle.head_kit.specs.declared.called.Naming.TheVariants.{Operation}
+use Rattle.head_kit.specs.declared.call_head.CallHead.{CallHead}
+use Rattle.head_kit.specs.declared.call_head.CallTarget.{CallTarget}
+use Rattle.head_kit.specs.declared.call_head.CallTarget.TheVariants.{Operation}
 use Rattle.pres.specs.declared.ops.Op.{Op}
 use Rattle.pres.specs.Bindings.{Binding}
 use Rattle.stub_codes.specs.Stubs.{Coded}
@@ -41,12 +41,12 @@ abbrev pub has_reply : Binding → ℕ → Bool
 has_reply b op = slice_index_or (map (λ (o : Op). o.has_reply) b.ops) op true
 
 -- what a call names has a reply, where it is an operation; a call that names none is refused
-abbrev pub names_reply : Binding → Naming → Bool
+abbrev pub names_reply : Binding → CallTarget → Bool
 names_reply b (Operation op) = has_reply b op
 names_reply b _ = true
 
 -- a call that is answered
-abbrev pub is_answered : Binding → Called → Bool
+abbrev pub is_answered : Binding → CallHead → Bool
 is_answered b c = wants_reply b.back c.head && names_reply b c.naming
 
 -- why a call is refused that is not a request: it names no interface, no operation, or its body is wrong
@@ -71,11 +71,11 @@ AnswersAs b m work o head (Err e) x = RefusesCall b m o head e x
 AnswersAs b m work o head (Ok r) x = (w : Val) × work r.op r.value w × Replies b m o head r.op w x
 
 -- a call that is answered, in its own version
-abbrev pub AnswersCall : Binding → Work → List ℕ → Called → Option (List ℕ) → Type 0
+abbrev pub AnswersCall : Binding → Work → List ℕ → CallHead → Option (List ℕ) → Type 0
 AnswersCall b work o c x = (r : Result Asked MessageErr) × ReadCall b o r × AnswersAs b c.minor work o (reply_head b.back c.head) r x
 
 -- a message that begins with the head of a call
-abbrev pub ServesCall : Binding → Work → List ℕ → Called → Option (List ℕ) → Type 0
+abbrev pub ServesCall : Binding → Work → List ℕ → CallHead → Option (List ℕ) → Type 0
 ServesCall b work o c x = MatchBool (is_answered b c) (AnswersCall b work o c x) (x ≡ None)
 
 -- what a message is answered: nothing if it is too long; else by its head, or in this version by the first fault of that
@@ -83,7 +83,7 @@ abbrev pub Serves : Binding → ℕ → Work → List ℕ → Option (List ℕ) 
 Serves b m work o x =
     ((longest_message < length o) × (x ≡ None))
     ⊎ (IsShort o × (e : HeadErr) × Stops b.back o e × AnswersFault b.back m b o e x)
-    ⊎ (IsShort o × (c : Called) × Begins b o c × ServesCall b work o c x)
+    ⊎ (IsShort o × (c : CallHead) × Begins b o c × ServesCall b work o c x)
 
 -- ---- what it costs a buffer
 
@@ -97,11 +97,11 @@ AnswersByCode x m work o head r answer spent new = (w : Val) × work r.op r.valu
     × RepliesByCode x m head r.op w spent new
 
 -- a call, if its message is a request, in its own version
-abbrev pub AnswersCallByCode : Coded → Work → List ℕ → Called → Option (List ℕ) → Tally → Buf → Type 0
+abbrev pub AnswersCallByCode : Coded → Work → List ℕ → CallHead → Option (List ℕ) → Tally → Buf → Type 0
 AnswersCallByCode x work o c answer spent new = (r : Asked) → ReadCall x.binding o (Ok r)
     → AnswersByCode x c.minor work o (reply_head x.binding.back c.head) r answer spent new
 
 -- a message, if it begins with the head of a call that is answered
 abbrev pub ServesByCode : Coded → Work → List ℕ → Option (List ℕ) → Tally → Buf → Type 0
-ServesByCode x work o answer spent new = (c : Called) → Begins x.binding o c → is_answered x.binding c ≡ true
+ServesByCode x work o answer spent new = (c : CallHead) → Begins x.binding o c → is_answered x.binding c ≡ true
     → AnswersCallByCode x work o c answer spent new

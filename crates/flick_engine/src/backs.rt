@@ -9,12 +9,12 @@ use crate::engine::Engine;
 use crate::reply_leads::reply_id;
 use back_mach::routines::routine_of;
 use head_arms::exceptions_of;
-use head_kit::Called;
+use head_kit::CallHead;
 use wire_def::{Back, Encoding, Head, HeadErr, Order, ReplyHead};
 
 impl Engine {
     /// Reads the head of a call from the first octets of a message.
-    pub(crate) fn read_head(&self, message: &[u8]) -> Result<Called, HeadErr>
+    pub(crate) fn read_head(&self, message: &[u8]) -> Result<CallHead, HeadErr>
         ensures begins { IfOk result (λ c. Begins self.now.binding message.now c) }
         ensures below { IfOk result (λ c. IsBelow (length self.now.binding.ops) c.naming) }
         ensures stops { IfErr result (λ e. Stops self.now.binding.back message.now e) }
@@ -28,7 +28,7 @@ impl Engine {
 
     /// Reads the head of a request over CDR from the first octets of a message. What it names is picked among the
     /// names that the engine keeps.
-    fn read_named(&self, message: &[u8]) -> Result<Called, HeadErr>
+    fn read_named(&self, message: &[u8]) -> Result<CallHead, HeadErr>
         requires cdr { IsCdr self.now.binding.back }
         ensures begins { IfOk result (λ c. Begins self.now.binding message.now c) }
         ensures below { IfOk result (λ c. IsBelow (length self.now.binding.ops) c.naming) }

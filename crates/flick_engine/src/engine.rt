@@ -77,10 +77,10 @@ impl Engine {
     /// There is one code for each operation, and each is what is promised of its operation: the code that sends
     /// means exactly the octets of the message, ensures the room for all that it appends, and checks the buffer at
     /// most once a region; the code that receives gives a value exactly where octets spell one. It does nothing.
-    pub fn codes_are_the_operations(&self)
+    pub fn codes_match_operations(&self)
         ensures { IsCoded self.now }
     {
-        self.stubs.codes_are_the_operations();
+        self.stubs.codes_match_operations();
     }
 
     /// The code that sends an operation's requests.

@@ -5,7 +5,7 @@ ghost use Rattle.std.specs.List.{list_any};
 ghost use Rattle.std.specs.Str.{bytes_eq};
 ghost use Rattle.aoi.specs.Plain.{PlainInterface, plain_interface};
 ghost use Rattle.raw_buf.specs.Buf.{NoneFell};
-ghost use Rattle.giop_head.specs.declared.header.Way.TheVariants.{Requests};
+ghost use Rattle.giop_head.specs.declared.header.HeadKind.TheVariants.{Requests};
 ghost use Rattle.giop_head.specs.Heads.{StopsWith};
 ghost use Rattle.flick_engine.specs.Backs.{Stops};
 ghost use Rattle.flick_engine.specs.Refusals as refusals;
@@ -19,7 +19,7 @@ use crate::serve::Served;
 use aoi::Interface;
 use demux::WordName;
 use giop_head::GiopCall;
-use head_kit::{Called, Naming};
+use head_kit::{CallHead, CallTarget};
 use kit_base::NoMemory;
 use raw_buf::SendBuf;
 use wire_def::{Back, Head, HeadErr, Order, Refusal};
@@ -141,13 +141,13 @@ impl Engine {
     }
 
     /// Whether what a call names has a reply, where it is an operation.
-    fn names_reply(&self, naming: &Naming) -> bool
+    fn names_reply(&self, naming: &CallTarget) -> bool
         ensures { result ≡ serving.names_reply self.now.binding naming.now }
     {
         match naming {
-            Naming::Operation(op) => self.has_reply(*op),
-            Naming::NoInterface => true,
-            Naming::NoOperation => true,
+            CallTarget::Operation(op) => self.has_reply(*op),
+            CallTarget::NoInterface => true,
+            CallTarget::NoOperation => true,
         }
     }
 
@@ -164,7 +164,7 @@ impl Engine {
     }
 
     /// Whether a call is answered.
-    pub(crate) fn is_answered(&self, called: &Called) -> bool
+    pub(crate) fn is_answered(&self, called: &CallHead) -> bool
         ensures { result ≡ serving.is_answered self.now.binding called.now }
     {
         self.wants_reply(&called.head) && self.names_reply(&called.naming)

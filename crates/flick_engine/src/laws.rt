@@ -15,14 +15,14 @@ pub fn messages_are_read_back()
 
 /// The operations of a binding are those of its unit: what goes into one are its parameters, and a
 /// message names the one that its head asks for.
-pub fn operations_are_the_units()
+pub fn operations_match_unit()
     ensures parameters { AreTheUnits }
     ensures asked { AreAskedFor }
 {}
 
 /// What comes back from an operation of a binding is what the operation of its unit has: the answer,
 /// or one of its exceptions.
-pub fn replies_are_the_units()
+pub fn replies_match_unit()
     ensures { AreTheReplies }
 {}
 

@@ -22,8 +22,8 @@ mod wire;
 pub use engine::Engine;
 pub use errors::{MarshalErr, MessageErr};
 pub use laws::{
-    messages_are_decided, messages_are_read_back, operations_are_the_units, replies_are_decided,
-    replies_are_read_back, replies_are_the_units, servings_are_decided,
+    messages_are_decided, messages_are_read_back, operations_match_unit, replies_are_decided,
+    replies_are_read_back, replies_match_unit, servings_are_decided,
 };
 pub use replies::Reply;
 pub use requests::Request;

@@ -14,7 +14,7 @@ ghost use Rattle.flick_engine.specs.Serving.{IsRefused, RefusesCall};
 use crate::engine::Engine;
 use crate::errors::MessageErr;
 use aoi::Interface;
-use head_kit::Called;
+use head_kit::CallHead;
 use kit_base::{NoMemory, Octets};
 use raw_buf::SendBuf;
 use std::alloc::Global;
@@ -112,7 +112,7 @@ impl Engine {
     fn no_interface(
         &self,
         alloc: Global,
-        called: &Called,
+        called: &CallHead,
         message: &[u8],
     ) -> Result<Refusal, NoMemory>
         requires { Begins self.now.binding message.now called.now }
@@ -180,7 +180,7 @@ impl Engine {
         &self,
         alloc: Global,
         fault: MessageErr,
-        called: &Called,
+        called: &CallHead,
         message: &[u8],
     ) -> Result<Refusal, NoMemory>
         requires begins { Begins self.now.binding message.now called.now }
@@ -204,7 +204,7 @@ impl Engine {
     pub(crate) fn refuse(
         &self,
         why: &Refusal,
-        called: &Called,
+        called: &CallHead,
         message: &[u8],
         buf: &mut SendBuf,
     ) -> Result<(), NoMemory>
@@ -235,7 +235,7 @@ impl Engine {
         &self,
         alloc: Global,
         fault: MessageErr,
-        called: &Called,
+        called: &CallHead,
         message: &[u8],
         buf: &mut SendBuf,
     ) -> Result<(), NoMemory>

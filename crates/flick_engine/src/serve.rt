@@ -17,7 +17,7 @@ ghost use Rattle.flick_engine.specs.Serving.{Serves, ServesByCode, ServesCall, A
 use crate::engine::Engine;
 use crate::errors::{MarshalErr, MessageErr};
 use crate::requests::Request;
-use head_kit::{Called, Naming};
+use head_kit::{CallHead, CallTarget};
 use kit_base::NoMemory;
 use kit_base::limits::LONGEST_MESSAGE;
 use raw_buf::{RecvView, SendBuf};
@@ -112,7 +112,7 @@ impl Engine {
         &self,
         alloc: Global,
         skeleton: &S,
-        called: &Called,
+        called: &CallHead,
         message: &[u8],
         view: &mut RecvView<'_>,
         buf: &mut SendBuf,
@@ -150,7 +150,7 @@ impl Engine {
         &self,
         alloc: Global,
         skeleton: &S,
-        called: &Called,
+        called: &CallHead,
         message: &[u8],
         view: &mut RecvView<'_>,
         buf: &mut SendBuf,
@@ -176,13 +176,13 @@ impl Engine {
         ensures code { OnOk result (IsServedByCode self.now view.old view.new) }
     {
         match called.naming {
-            Naming::NoInterface => {
+            CallTarget::NoInterface => {
                 self.refuse_call(alloc, MessageErr::NoInterface, called, message, buf)
             }
-            Naming::NoOperation => {
+            CallTarget::NoOperation => {
                 self.refuse_call(alloc, MessageErr::NoOperation, called, message, buf)
             }
-            Naming::Operation(op) => match self.read_body(alloc, op, called, message, view) {
+            CallTarget::Operation(op) => match self.read_body(alloc, op, called, message, view) {
                 Ok(request) => {
                     self.answer_request(alloc, skeleton, &request, called, message, buf)
                 }
@@ -197,7 +197,7 @@ impl Engine {
         alloc: Global,
         skeleton: &S,
         request: &Request,
-        called: &Called,
+        called: &CallHead,
         message: &[u8],
         buf: &mut SendBuf,
     ) -> Result<(), NoMemory>

@@ -13,7 +13,7 @@ ghost use Rattle.flick_engine.specs.Received.{Answers, IsExactly, Names};
 use crate::engine::Engine;
 use crate::errors::MessageErr;
 use crate::requests::Request;
-use head_kit::{Called, Naming};
+use head_kit::{CallHead, CallTarget};
 use kit_base::limits::LONGEST_MESSAGE;
 use plain_wire::Read;
 use raw_buf::RecvView;
@@ -56,8 +56,8 @@ impl Engine {
     }
 
     /// The operation that a message calls, and what its head says. It takes no memory.
-    fn begin(&self, message: &[u8]) -> Result<(Called, u32), MessageErr>
-        ensures ok { IfOk result (λ r. Names self.now.binding message.now r.0 (Naming.Operation r.1)) }
+    fn begin(&self, message: &[u8]) -> Result<(CallHead, u32), MessageErr>
+        ensures ok { IfOk result (λ r. Names self.now.binding message.now r.0 (CallTarget.Operation r.1)) }
         ensures op { IfOk result (λ r. r.1 < length self.now.binding.ops) }
         ensures err { IfErr result (λ e. IsExactly self.now.binding message.now (Err e)) }
         ensures memory { result ≢ Err MessageErr.NoMemory }
@@ -67,9 +67,9 @@ impl Engine {
         }
         match self.read_head(message) {
             Ok(called) => match called.naming {
-                Naming::Operation(op) => Ok((called, op)),
-                Naming::NoInterface => Err(MessageErr::NoInterface),
-                Naming::NoOperation => Err(MessageErr::NoOperation),
+                CallTarget::Operation(op) => Ok((called, op)),
+                CallTarget::NoInterface => Err(MessageErr::NoInterface),
+                CallTarget::NoOperation => Err(MessageErr::NoOperation),
             },
             Err(fault) => Err(MessageErr::Head(fault)),
         }
@@ -81,13 +81,13 @@ impl Engine {
         &self,
         alloc: Global,
         op: u32,
-        called: &Called,
+        called: &CallHead,
         message: &[u8],
         view: &mut RecvView<'_>,
     ) -> Result<Request, MessageErr>
         // What is called.
         requires op { op < length self.now.binding.ops }
-        requires names { Names self.now.binding message.now called.now (Naming.Operation op) }
+        requires names { Names self.now.binding message.now called.now (CallTarget.Operation op) }
         // What is read.
         requires start { view.old.pos ≡ 0 }
         requires message { view.old.octets ≡ message.now }
@@ -110,13 +110,13 @@ impl Engine {
     fn reported_by_body(
         &self,
         op: u32,
-        called: &Called,
+        called: &CallHead,
         message: &[u8],
         read: Read,
     ) -> Result<Request, MessageErr>
         // What is called.
         requires op { op < length self.now.binding.ops }
-        requires names { Names self.now.binding message.now called.now (Naming.Operation op) }
+        requires names { Names self.now.binding message.now called.now (CallTarget.Operation op) }
         // What was read.
         requires value { (v : Val) (used : ℕ) → IsValue read v used
             ↔ FirstSpell called.now.encoding (request_type self.now.binding op) called.now.used

@@ -2,7 +2,7 @@
 
 use crate::descent::word_at;
 use crate::text::{cut, shown, text_of};
-use head_kit::{Called, Naming};
+use head_kit::{CallHead, CallTarget};
 use kit_base::NoMemory;
 use kit_base::limits::LONGEST_MESSAGE;
 use mint::kind::{Count, Kind};
@@ -40,7 +40,7 @@ pub fn part_reported(alloc: Global, bound: &Bound, message: &[u8]) -> Result<Str
     let Some(called) = called_by(bound, message) else {
         return text_of(alloc, "args");
     };
-    let Naming::Operation(op) = called.naming else {
+    let CallTarget::Operation(op) = called.naming else {
         return text_of(alloc, "args");
     };
     let body = Body {
@@ -55,7 +55,7 @@ pub fn part_reported(alloc: Global, bound: &Bound, message: &[u8]) -> Result<Str
 }
 
 /// What the head of a message names.
-fn called_by(bound: &Bound, message: &[u8]) -> Option<Called> {
+fn called_by(bound: &Bound, message: &[u8]) -> Option<CallHead> {
     match bound.back() {
         Back::Xdr => back_xdr::read_called(bound, message).ok(),
         Back::CdrBig | Back::CdrLittle => back_cdr::read_called(bound, message).ok(),

@@ -110,7 +110,7 @@ const LIMIT: Cause = Cause {
 
 const OUT_OF_SCOPE: Cause = Cause {
     what: "not read by Flick:",
-    why: "the language has it, and no message of Flick has.",
+    why: "the language has it, but Flick does not support it.",
     repair: "leave out what uses it, or send octets in its place.",
     of_names: false,
 };

@@ -2,15 +2,9 @@
 
 use crate::command::Run;
 use crate::ended::Ended;
-use kit_base::limits::LONGEST_FILE;
+use kit_base::limits::{LONGEST_FILE, LONGEST_REPLIES, MOST_INPUT};
 use kit_base::{Octets, Shelf, ShelfErr};
 use std::alloc::Global;
-
-/// The most octets of a file of replies.
-pub const LONGEST_REPLIES: u32 = 8_388_608;
-
-/// The most octets of INPUT that are read.
-const MOST_LINES: u32 = 1_073_741_824;
 
 /// The files of a run, each where it is there.
 #[derive(Drop)]
@@ -25,7 +19,7 @@ impl Shelved {
     pub fn of<F: Shelf>(alloc: Global, run: &Run<'_>, shelf: &mut F) -> Result<Shelved, Ended> {
         let file = content(alloc, run.path, LONGEST_FILE + 1, shelf)?;
         let replies = content_at(alloc, run.replies, LONGEST_REPLIES + 1, shelf)?;
-        let lines = content_at(alloc, run.lines, MOST_LINES, shelf)?;
+        let lines = content_at(alloc, run.lines, MOST_INPUT as u32, shelf)?;
         Ok(Shelved {
             file,
             replies,

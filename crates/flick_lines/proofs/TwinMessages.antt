@@ -26,9 +26,9 @@ use Rattle.json_shape.specs.Replies.{word, reply_with}
 use Rattle.json_shape.specs.Requests.{head_json, request_json}
 use Rattle.json_shape.specs.Texts.{text_of}
 use Rattle.json_shape.specs.Written.{json_of}
-use Rattle.head_kit.specs.declared.called.Called.{Called}
-use Rattle.head_kit.specs.declared.called.Naming.{Naming}
-use Rattle.head_kit.specs.declared.called.Naming.TheVariants.{Operation}
+use Rattle.head_kit.specs.declared.call_head.CallHead.{CallHead}
+use Rattle.head_kit.specs.declared.call_head.CallTarget.{CallTarget}
+use Rattle.head_kit.specs.declared.call_head.CallTarget.TheVariants.{Operation}
 use Rattle.head_kit.specs.Calls.{IsBelow}
 use Rattle.flick_engine.specs.declared.errors.MessageErr.{MessageErr}
 use Rattle.flick_engine.specs.declared.errors.MessageErr.TheVariants as err
@@ -44,19 +44,19 @@ use Rattle.flick_lines.proofs.TwinRecords.{IsFew, raises_alike, replying_alike}
 
 -- ---- calls
 
-pub begins_over : (b c : Binding) → AreTwins b c → (o : List ℕ) (k : Called) → Begins b o k → Begins c o k
+pub begins_over : (b c : Binding) → AreTwins b c → (o : List ℕ) (k : CallHead) → Begins b o k → Begins c o k
 begins_over b c t o k h = subst (λ (x : Back). BeginsOver x c o k) t.backs ((heads_alike b c t.units t.one).begins o k h)
 
-pub begins_below : (b c : Binding) → AreTwins b c → (o : List ℕ) (k : Called) → Begins b o k → IsBelow (length b.ops) k.naming
+pub begins_below : (b c : Binding) → AreTwins b c → (o : List ℕ) (k : CallHead) → Begins b o k → IsBelow (length b.ops) k.naming
 begins_below b c t o k h = (heads_alike b c t.units t.one).below o k h
 
 -- the request of an operation that a message names
-named_request : (b c : Binding) → AreTwins b c → (o : List ℕ) (k : Called) (op : ℕ) → Names b o k (Operation op)
+named_request : (b c : Binding) → AreTwins b c → (o : List ℕ) (k : CallHead) (op : ℕ) → Names b o k (Operation op)
     → request_type b op ≡ request_type c op
 named_request b c t o k op (short, begins, is) =
     request_alike b c t op (subst (λ n. IsBelow (length b.ops) n) is (begins_below b c t o k begins))
 
-names_over : (b c : Binding) → AreTwins b c → (o : List ℕ) (k : Called) (n : Naming) → Names b o k n → Names c o k n
+names_over : (b c : Binding) → AreTwins b c → (o : List ℕ) (k : CallHead) (n : CallTarget) → Names b o k n → Names c o k n
 names_over b c t o k n (short, begins, is) = (short, begins_over b c t o k begins, is)
 
 pub call_over : (b c : Binding) → AreTwins b c → (o : List ℕ) (x : Result Asked MessageErr) → ReadCall b o x → ReadCall c o x

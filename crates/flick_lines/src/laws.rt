@@ -19,6 +19,6 @@ pub fn lines_are_answered(engine: &Engine)
 pub fn messages_are_counted(engine: &Engine)
     ensures { AllCounted engine.now }
 {
-    engine.codes_are_the_operations();
+    engine.codes_match_operations();
     requests_have_costs();
 }

@@ -7,7 +7,7 @@ ghost use Rattle.mint.specs.Values.{seen};
 ghost use Rattle.flick_lines.specs.Usual.{IsUsual};
 
 use flick_engine::Engine;
-use json_shape::{RequestRec, Scratch, usual_request};
+use json_shape::{RequestRec, Scratch, direct_request};
 use kit_base::NoMemory;
 use std::alloc::Global;
 
@@ -24,7 +24,7 @@ pub(crate) fn usual_of(
         (λ op. IsWellTyped (type_at engine.now.binding.nodes op.request) (seen r.value)))) }
 {
     match str::from_utf8(line) {
-        Ok(text) => usual_request(alloc, engine.bound(), text, scratch),
+        Ok(text) => direct_request(alloc, engine.bound(), text, scratch),
         Err(_) => Ok(None),
     }
 }

@@ -14,9 +14,9 @@ use Rattle.wire_def.specs.declared.fault.HeadErr.{HeadErr}
 use Rattle.wire_def.specs.declared.head.Head.{Head}
 use Rattle.wire_def.specs.declared.outcome.Refusal.{Refusal}
 use Rattle.aoi.specs.Plain.{PlainUnit}
-use Rattle.head_kit.specs.declared.called.Called.{Called}
-use Rattle.head_kit.specs.declared.called.Naming.{Naming}
-use Rattle.head_kit.specs.declared.called.Naming.TheVariants.{Operation, NoInterface, NoOperation}
+use Rattle.head_kit.specs.declared.call_head.CallHead.{CallHead}
+use Rattle.head_kit.specs.declared.call_head.CallTarget.{CallTarget}
+use Rattle.head_kit.specs.declared.call_head.CallTarget.TheVariants.{Operation, NoInterface, NoOperation}
 use Rattle.head_kit.specs.Calls.{IsBelow}
 use Rattle.pres.specs.declared.ops.Op.{Op}
 use Rattle.pres.specs.Bindings.{Binding}
@@ -125,12 +125,12 @@ module _ (b c : Binding) (t : AreTwins b c) (o : List ℕ) where
   fault_over : (m : ℕ) (e : HeadErr) (x : Option (List ℕ)) → AnswersFault b.back m b o e x → AnswersFault c.back m c o e x
   fault_over m e x h = subst (λ (k : Back). AnswersFault k m c o e x) t.backs (fault_same b.back m b c t.units o e x h)
 
-  named_alike : (n : Naming) → names_reply b n ≡ names_reply c n
+  named_alike : (n : CallTarget) → names_reply b n ≡ names_reply c n
   named_alike (Operation op) = reply_same (faces_in b) (faces_in c) b.ops c.ops op (ops_alike b c t)
   named_alike NoInterface = refl
   named_alike NoOperation = refl
 
-  answered_alike : (k : Called) → is_answered b k ≡ is_answered c k
+  answered_alike : (k : CallHead) → is_answered b k ≡ is_answered c k
   answered_alike k =
       ap (λ (e : Back). wants_reply e k.head && names_reply b k.naming) t.backs
       ∙ ap (λ (p : Bool). wants_reply c.back k.head && p) (named_alike k.naming)
@@ -176,7 +176,7 @@ module _ (b c : Binding) (t : AreTwins b c) (o : List ℕ) where
         let below = read_below r reads in
         (w, is ∙ same r.op below, replies_over m head r.op below w x replies)
 
-    call_answered : (k : Called) (x : Option (List ℕ)) → AnswersCall b (gives (λ op request. f op)) o k x
+    call_answered : (k : CallHead) (x : Option (List ℕ)) → AnswersCall b (gives (λ op request. f op)) o k x
         → AnswersCall c (gives (λ op request. h op)) o k x
     call_answered k x (r, reads, answers) = (
       r,
@@ -185,7 +185,7 @@ module _ (b c : Binding) (t : AreTwins b c) (o : List ℕ) where
           (answers_over k.minor (reply_head b.back k.head) r x reads answers),
     )
 
-    matched : (p : Bool) (k : Called) (x : Option (List ℕ)) → MatchBool p (AnswersCall b (gives (λ op request. f op)) o k x) (x ≡ None)
+    matched : (p : Bool) (k : CallHead) (x : Option (List ℕ)) → MatchBool p (AnswersCall b (gives (λ op request. f op)) o k x) (x ≡ None)
         → MatchBool p (AnswersCall c (gives (λ op request. h op)) o k x) (x ≡ None)
     matched true k x a = call_answered k x a
     matched false k x a = a

@@ -10,7 +10,7 @@ use Rattle.mint.specs.declared.value.Value.{Value}
 use Rattle.mint.specs.Types.{Ty}
 use Rattle.mint.specs.Values.{Val, seen}
 use Rattle.pres.specs.Bindings.{Binding}
-use Rattle.skeleton.specs.Kept.{Kept, Places, kept_in, reply_or_blank, answer_at}
+use Rattle.skeleton.specs.TableSkeleton.{TableSkeleton, Places, kept_in, reply_or_blank, answer_at}
 use Rattle.skeleton.proofs.Keeping.{with_table}
 use Rattle.flick_engine.specs.Replies.{reply_type}
 use Rattle.flick_engine.specs.Serving.{gives, Serves}
@@ -80,14 +80,14 @@ reply_answer b m answer message octets (Ok o) serves is = (Some octets, serves, 
 reply_answer b m answer message octets (Err e) serves is = tt
 
 -- the answer of a server that is seen as this
-pub line_served : {E : Type 0} (s t : Serving) (places : Places) (kept : Kept) (line : List ℕ) (y : Result (List ℕ) E) → t ≡ s
+pub line_served : {E : Type 0} (s t : Serving) (places : Places) (kept : TableSkeleton) (line : List ℕ) (y : Result (List ℕ) E) → t ≡ s
     → IsServing t places → kept ≡ with_table t.coded.binding places
     → IfOk y (λ o. IsOfMessage t.coded.binding t.coded.minor (answer_at kept) (decode_of line) o)
     → IfOk y (λ o. IsServed s.coded.binding s.coded.minor s.text line o)
 line_served s t places kept line (Ok o) same serving is h =
     let there =
     served_by t places serving line o
-    (subst (λ (k : Kept). IsOfMessage t.coded.binding t.coded.minor (answer_at k) (decode_of line) o) is h) in
+    (subst (λ (k : TableSkeleton). IsOfMessage t.coded.binding t.coded.minor (answer_at k) (decode_of line) o) is h) in
     subst (λ (x : Serving). IsServed x.coded.binding x.coded.minor x.text line o) same there
 line_served s t places kept line (Err e) same serving is h = tt
 

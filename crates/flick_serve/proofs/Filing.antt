@@ -6,7 +6,7 @@ use Rattle.mint.specs.declared.value.Value.{Value}
 use Rattle.mint.specs.Values.{Val, seen}
 use Rattle.pres.specs.Bindings.{Binding}
 use Rattle.json_shape.specs.declared.records.RequestRec.{RequestRec}
-use Rattle.skeleton.specs.Kept.{Places}
+use Rattle.skeleton.specs.TableSkeleton.{Places}
 use Rattle.flick_serve.specs.declared.given.WrongLine.{WrongLine}
 use Rattle.flick_serve.specs.Given.{IsGiven, Given, Give, lines_of, FileGives, given_in, given_by, unless_wrong, Finds, IsFitting}
 use Rattle.flick_serve.proofs.Taking.{IsFull}

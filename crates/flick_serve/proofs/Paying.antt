@@ -11,10 +11,10 @@ use Rattle.mint.specs.Values.{Val}
 use Rattle.raw_buf.specs.declared.tally.Tally.{Tally}
 use Rattle.raw_buf.specs.Buf.{Buf, NoneFell}
 use Rattle.cast_stub.specs.Meaning.{Cost, no_cost}
-use Rattle.head_kit.specs.declared.called.Called.{Called}
+use Rattle.head_kit.specs.declared.call_head.CallHead.{CallHead}
 use Rattle.pres.specs.Bindings.{Binding}
 use Rattle.stub_codes.specs.Stubs.{Coded}
-use Rattle.skeleton.specs.Kept.{Kept, Places, answer_at}
+use Rattle.skeleton.specs.TableSkeleton.{TableSkeleton, Places, answer_at}
 use Rattle.skeleton.proofs.Keeping.{with_table}
 use Rattle.flick_engine.specs.declared.errors.MessageErr.{MessageErr}
 use Rattle.flick_engine.specs.declared.serve.Served.{Served}
@@ -50,10 +50,10 @@ module _ (c : Coded) (answer : ℕ → Val) (o : List ℕ) where
 
   -- ---- one cost
 
-  same_cost : (call d : Called) (q r : Asked) → IsRepliedTo c answer o call q → IsRepliedTo c answer o d r
+  same_cost : (call d : CallHead) (q r : Asked) → IsRepliedTo c answer o call q → IsRepliedTo c answer o d r
       → cost_to c answer call q ≡ cost_to c answer d r
   same_cost call d q r one other =
-      ap (λ (z : Called). cost_to c answer z q) ((one_head c.binding o).one_head call d one.begins other.begins)
+      ap (λ (z : CallHead). cost_to c answer z q) ((one_head c.binding o).one_head call d one.begins other.begins)
       ∙ ap (λ (z : Asked). cost_to c answer d z) (one_asked q r (Ok q) refl (determined c.binding o (Ok q) (Ok r) one.asks other.asks))
 
   pub one_cost : (k l : Option Cost) → IsCostOf c answer o k → IsCostOf c answer o l → k ≡ l
@@ -65,16 +65,16 @@ module _ (c : Coded) (answer : ℕ → Val) (o : List ℕ) where
   -- ---- a cost of which something holds
 
   module _ (Holds : Option Cost → Type 0) (free : Holds (Some no_cost))
-      (owed : (call : Called) (r : Asked) → IsRepliedTo c answer o call r → Holds (cost_to c answer call r)) where
+      (owed : (call : CallHead) (r : Asked) → IsRepliedTo c answer o call r → Holds (cost_to c answer call r)) where
     -- there is one
     abbrev HasCost : Type 0
     HasCost = (k : Option Cost) × IsCostOf c answer o k × Holds k
 
-    nothing_owed : ((call : Called) (r : Asked) → ¬ IsRepliedTo c answer o call r) → HasCost
+    nothing_owed : ((call : CallHead) (r : Asked) → ¬ IsRepliedTo c answer o call r) → HasCost
     nothing_owed never = (Some no_cost, inr (never, refl), free)
 
     -- a request that is answered
-    cost_of_reply : (d : Called) → Begins c.binding o d → is_answered c.binding d ≡ true → (r : Asked) → ReadCall c.binding o (Ok r)
+    cost_of_reply : (d : CallHead) → Begins c.binding o d → is_answered c.binding d ≡ true → (r : Asked) → ReadCall c.binding o (Ok r)
         → (b : Bool) → nat_le (length (reply_to c answer d r)) longest_message ≡ b → HasCost
     cost_of_reply d begins answered r reads true fits =
         let short : length (reply_to c answer d r) ≤ longest_message = leb-true (length (reply_to c answer d r)) longest_message fits in
@@ -84,25 +84,25 @@ module _ (c : Coded) (answer : ℕ → Val) (o : List ℕ) where
         let above : longest_message < length (reply_to c answer d r) = leb-false (length (reply_to c answer d r)) longest_message long in
         nothing_owed (λ call q replied.
         let one = (one_head c.binding o).one_head call d replied.begins begins in
-        let same = ap (λ (z : Called). length (reply_to c answer z q)) one ∙ ap (λ (z : Asked). length (reply_to c answer d z))
+        let same = ap (λ (z : CallHead). length (reply_to c answer z q)) one ∙ ap (λ (z : Asked). length (reply_to c answer d z))
         (one_asked q r (Ok r) (determined c.binding o (Ok r) (Ok q) reads replied.asks) refl) in
         omega (arith, above, replied.short, same))
 
     -- a call that is answered
-    cost_of_call : (d : Called) → Begins c.binding o d → is_answered c.binding d ≡ true
+    cost_of_call : (d : CallHead) → Begins c.binding o d → is_answered c.binding d ≡ true
         → (y : Result Asked MessageErr) → ReadCall c.binding o y → HasCost
     cost_of_call d begins answered (Ok r) reads =
         cost_of_reply d begins answered r reads (nat_le (length (reply_to c answer d r)) longest_message) refl
     cost_of_call d begins answered (Err e) reads =
         nothing_owed (λ call q replied. unlike e q (Err e) refl (determined c.binding o (Err e) (Ok q) reads replied.asks))
 
-    cost_of_called : (x : Option (List ℕ)) (d : Called) → Begins c.binding o d
+    cost_of_called : (x : Option (List ℕ)) (d : CallHead) → Begins c.binding o d
         → (b : Bool) → is_answered c.binding d ≡ b → MatchBool b (AnswersCall c.binding work o d x) (x ≡ None) → HasCost
     cost_of_called x d begins true answered (y, reads, answers) = cost_of_call d begins answered y reads
     cost_of_called x d begins false silent none =
         nothing_owed (λ call q replied.
         let same = (one_head c.binding o).one_head call d replied.begins begins in
-        not_true (is_answered c.binding call) replied.answered (ap (λ (z : Called). is_answered c.binding z) same ∙ silent))
+        not_true (is_answered c.binding call) replied.answered (ap (λ (z : CallHead). is_answered c.binding z) same ∙ silent))
 
     pub cost_somehow : (x : Option (List ℕ)) → Serves c.binding c.minor work o x → HasCost
     cost_somehow x (inl (long, none)) =
@@ -114,7 +114,7 @@ module _ (c : Coded) (answer : ℕ → Val) (o : List ℕ) where
   -- ---- what was paid
 
   -- the counts are those of the reply's code, where its message is within the limit
-  counts_of : (call : Called) (r : Asked) (x : Option (List ℕ)) (spent : Tally) (new : Buf)
+  counts_of : (call : CallHead) (r : Asked) (x : Option (List ℕ)) (spent : Tally) (new : Buf)
       → AnswersByCode c call.minor work o (reply_head c.binding.back call.head) r x spent new → IsShort (reply_to c answer call r)
       → IsAnsweredByCode c.stubs call.minor r.op (reply_head c.binding.back call.head) (answer r.op) spent new
   counts_of call r x spent new (w, is, replies, by) short =
@@ -222,12 +222,13 @@ paid_by s places serving line old new h =
     (sending, (given_in places, serving.given, sent), made)
 
 -- what a server makes of the buffer that is seen as this
-pub line_paid : {X E : Type 0} (s t : Serving) (places : Places) (kept : Kept) (line : List ℕ) (y : Result X E) (old new : Buf) → t ≡ s
+pub line_paid : {X E : Type 0} (s t : Serving) (places : Places) (kept : TableSkeleton) (line : List ℕ) (y : Result X E) (old new : Buf)
+    → t ≡ s
     → IsServing t places → kept ≡ with_table t.coded.binding places
     → OnOk y (IsMessagePaid t.coded (answer_at kept) (decode_of line) old new) → OnOk y (IsServePaid s line old new)
 line_paid s t places kept line (Err e) old new same serving is h = tt
 line_paid s t places kept line (Ok x) old new same serving is h =
     let there =
     paid_by t places serving line old new
-    (subst (λ (k : Kept). IsMessagePaid t.coded (answer_at k) (decode_of line) old new) is h) in
+    (subst (λ (k : TableSkeleton). IsMessagePaid t.coded (answer_at k) (decode_of line) old new) is h) in
     subst (λ (z : Serving). IsServePaid z line old new) same there

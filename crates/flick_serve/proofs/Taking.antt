@@ -7,7 +7,7 @@ use Rattle.mint.specs.declared.value.Value.{Value}
 use Rattle.mint.specs.Values.{Val, seen}
 use Rattle.pres.specs.Bindings.{Binding}
 use Rattle.json_shape.specs.declared.records.RequestRec.{RequestRec}
-use Rattle.skeleton.specs.Kept.{Places, kept_in, IsKept}
+use Rattle.skeleton.specs.TableSkeleton.{Places, kept_in, IsKept}
 use Rattle.skeleton.proofs.Keeping.{with_table, one_more}
 use Rattle.flick_serve.specs.Given.{IsGiven, Given, given_at, Adds, given_in, IsFitting}
 use Rattle.flick_serve.proofs.Finding.{AreOne, one_given, IsNowhere}

@@ -12,7 +12,7 @@ use Rattle.json_shape.specs.declared.records.RequestRec.{RequestRec}
 use Rattle.json_shape.specs.Presents.{Presents}
 use Rattle.json_shape.specs.Records.{Begun}
 use Rattle.json_shape.specs.Replies.{given_of}
-use Rattle.skeleton.specs.Kept.{Places}
+use Rattle.skeleton.specs.TableSkeleton.{Places}
 use Rattle.flick_engine.specs.Received.{IsShort}
 use Rattle.flick_engine.specs.Replies.{reply_type, reply_message}
 use Rattle.flick_lines.specs.Marshalled.{tree_of}

@@ -6,7 +6,7 @@ use Rattle.mint.specs.Blank.{blank}
 use Rattle.mint.specs.Types.{Ty}
 use Rattle.mint.specs.Values.{Val}
 use Rattle.pres.specs.Bindings.{Binding}
-use Rattle.skeleton.specs.Kept.{Places, IsKept}
+use Rattle.skeleton.specs.TableSkeleton.{Places, IsKept}
 use Rattle.stub_codes.specs.Stubs.{Coded}
 use Rattle.flick_engine.specs.Replies.{reply_type}
 use Rattle.flick_engine.specs.Serving.{gives, Serves}

@@ -5,7 +5,7 @@ use Rattle.hex.specs.declared.error.FromHexError.{FromHexError}
 use Rattle.mint.specs.Values.{Val}
 use Rattle.raw_buf.specs.Buf.{Buf}
 use Rattle.cast_stub.specs.Meaning.{Cost, no_cost}
-use Rattle.head_kit.specs.declared.called.Called.{Called}
+use Rattle.head_kit.specs.declared.call_head.CallHead.{CallHead}
 use Rattle.stub_codes.specs.Stubs.{Coded}
 use Rattle.flick_engine.specs.Backs.{Begins}
 use Rattle.flick_engine.specs.Costs.{answer_cost}
@@ -18,15 +18,15 @@ use Rattle.flick_serve.specs.Given.{Given, FileGives}
 use Rattle.flick_serve.specs.Served.{Serving, answer_of}
 
 -- the message of the reply to a request, in its version, by the answers of the operations
-abbrev pub reply_to : Coded → (ℕ → Val) → Called → Asked → List ℕ
+abbrev pub reply_to : Coded → (ℕ → Val) → CallHead → Asked → List ℕ
 reply_to c answer call r = reply_message c.binding call.minor r.op (reply_head c.binding.back call.head) (answer r.op)
 
 -- what the code costs that makes it
-abbrev pub cost_to : Coded → (ℕ → Val) → Called → Asked → Option Cost
+abbrev pub cost_to : Coded → (ℕ → Val) → CallHead → Asked → Option Cost
 cost_to c answer call r = answer_cost c.stubs call.minor r.op (reply_head c.binding.back call.head) (answer r.op)
 
 -- a message is a request, to a call that is answered, and the message of its reply is not too long
-pub record IsRepliedTo (c : Coded) (answer : ℕ → Val) (o : List ℕ) (call : Called) (r : Asked) : Type 0 where
+pub record IsRepliedTo (c : Coded) (answer : ℕ → Val) (o : List ℕ) (call : CallHead) (r : Asked) : Type 0 where
   pub begins : Begins c.binding o call
   pub answered : is_answered c.binding call ≡ true
   pub asks : ReadCall c.binding o (Ok r)
@@ -35,8 +35,8 @@ pub record IsRepliedTo (c : Coded) (answer : ℕ → Val) (o : List ℕ) (call :
 -- a cost is that of the reply's code, where a message is answered by its reply; else nothing is owed
 abbrev pub IsCostOf : Coded → (ℕ → Val) → List ℕ → Option Cost → Type 0
 IsCostOf c answer o k =
-    ((call : Called) × (r : Asked) × IsRepliedTo c answer o call r × (k ≡ cost_to c answer call r))
-    ⊎ (((call : Called) (r : Asked) → ¬ IsRepliedTo c answer o call r) × (k ≡ Some no_cost))
+    ((call : CallHead) × (r : Asked) × IsRepliedTo c answer o call r × (k ≡ cost_to c answer call r))
+    ⊎ (((call : CallHead) (r : Asked) → ¬ IsRepliedTo c answer o call r) × (k ≡ Some no_cost))
 
 -- what is sent in answer to what hexadecimal digits spell: a reply, or no octets where there is none, at this cost
 abbrev pub IsMessageSent : Coded → (ℕ → Val) → Result (List ℕ) FromHexError → Sending → Type 0

@@ -10,7 +10,7 @@ ghost use Rattle.mint.specs.Types.{type_at};
 ghost use Rattle.mint.specs.Values.{seen};
 ghost use Rattle.serde_json.specs.View.{view};
 ghost use Rattle.json_shape.specs.Replies.{given_of};
-ghost use Rattle.skeleton.specs.Kept.{kept_in, IsKept};
+ghost use Rattle.skeleton.specs.TableSkeleton.{kept_in, IsKept};
 ghost use Rattle.flick_engine.specs.Received.{IsShort};
 ghost use Rattle.flick_serve.specs.Given as files;
 ghost use Rattle.flick_serve.specs.Given.{Adds, FileGives, Finds, Give, IsFitting, IsGiven, IsReplyOf, given_by, given_in, lines_of, message_of, unless_wrong};

@@ -3,7 +3,7 @@
 ghost use Rattle.std.specs.Prelude.{◌≡◌, ℕ, List, Result, IfErr, IfOk, OnOk, Ok};
 ghost use Rattle.hex.specs.Hex.{decode_of};
 ghost use Rattle.raw_buf.specs.Buf.{NoneFell};
-ghost use Rattle.skeleton.specs.Kept.{answer_at};
+ghost use Rattle.skeleton.specs.TableSkeleton.{answer_at};
 ghost use Rattle.flick_serve.specs.Given.{Given, FileGives};
 ghost use Rattle.flick_serve.specs.Served.{AgreesWith, IsOfMessage, IsServed};
 ghost use Rattle.flick_serve.specs.Spent.{IsMessagePaid, IsServePaid};
@@ -14,7 +14,7 @@ use flick_lines::{copied, digits};
 use hex::FromHexError;
 use kit_base::{NoMemory, Octets};
 use raw_buf::{RecvView, SendBuf};
-use skeleton::{Kept, Replies};
+use skeleton::{Replies, TableSkeleton};
 use std::alloc::Global;
 use std::marker::Model;
 
@@ -95,7 +95,7 @@ impl Server {
         ensures paid { OnOk result (IsServePaid self.now line.now buf.old buf.new) }
         ensures spent { NoneFell buf.old.spent buf.new.spent }
     {
-        let kept = Kept::new(self.engine.bound(), &self.replies);
+        let kept = TableSkeleton::new(self.engine.bound(), &self.replies);
         of_line(alloc, &self.engine, &kept, line, buf)
     }
 
@@ -112,7 +112,7 @@ impl Server {
 fn of_line(
     alloc: Global,
     engine: &Engine,
-    kept: &Kept<'_>,
+    kept: &TableSkeleton<'_>,
     line: &[u8],
     buf: &mut SendBuf,
 ) -> Result<Octets, NoMemory>
@@ -134,7 +134,7 @@ fn of_line(
 fn of_message(
     alloc: Global,
     engine: &Engine,
-    kept: &Kept<'_>,
+    kept: &TableSkeleton<'_>,
     message: &[u8],
     buf: &mut SendBuf,
 ) -> Result<Octets, NoMemory>

@@ -15,13 +15,13 @@ use Rattle.flick_top.specs.declared.command.Named.{Named}
 use Rattle.flick_top.specs.declared.file.NoBridge.{NoBridge}
 use Rattle.flick_top.specs.declared.job.Job.TheVariants as jobs
 use Rattle.flick_top.specs.declared.prepared.Prepared.{Prepared}
-use Rattle.flick_top.specs.declared.saying.Saying.{Saying}
-use Rattle.flick_top.specs.declared.saying.Saying.TheVariants.{NoFile}
-use Rattle.flick_top.specs.Coming.{Files, IsMadeIn, IsMadeOf, IsSecond, bridging_task, Bridges, BridgesFile, bridge_of, IsBridge, IsBridgeOf}
+use Rattle.flick_top.specs.declared.report.Report.{Report}
+use Rattle.flick_top.specs.declared.report.Report.TheVariants.{NoFile}
+use Rattle.flick_top.specs.Dispatch.{Files, IsMadeIn, IsMadeOf, IsSecond, bridging_task, Bridges, BridgesFile, bridge_of, IsBridge, IsBridgeOf}
 use Rattle.flick_top.specs.File.{Reported, FileSays, BindSays, BoundSays, IsOf, codes_in}
 use Rattle.flick_top.specs.Fronts.{Read}
 use Rattle.flick_top.specs.Made.{codes_of}
-use Rattle.flick_top.specs.Task.{Task, saying_task, answering_task, engine_of, task_in}
+use Rattle.flick_top.specs.Task.{Task, report_task, answering_task, engine_of, task_in}
 use Rattle.flick_top.proofs.FilesSay.{file_says}
 use Rattle.flick_top.proofs.Front.{reported-decides}
 
@@ -33,7 +33,7 @@ bound_unit codes u w (Some x) e is = absurd (cc is)
 bound_unit codes u w None e (over, same) = over.0.unit
 
 says_unit : (codes : List Stub) (w : Wire) (read : Read) (e : Coded) → BoundSays codes w read (Ok e) → read ≡ Ok e.binding.unit
-says_unit codes w (Err saying) e is = absurd (cc is)
+says_unit codes w (Err report) e is = absurd (cc is)
 says_unit codes w (Ok u) e says = ap (λ (v : PlainUnit). Ok v) (sym (bound_unit codes u w (bind_fault u (back_in w)) e says))
 
 -- the engines of a bridge are of one unit
@@ -58,7 +58,7 @@ units_agree front w to content first e second is made other =
 pub units_match : (e : Coded) (to : Wire) (second : Reported) → IsSecond e to second
     → IfOk second (λ x. e.binding.unit ≡ x.binding.unit)
 units_match e to (Ok x) is = bridging_stands e to x is
-units_match e to (Err saying) is = tt
+units_match e to (Err report) is = tt
 
 -- ---- bridges
 
@@ -71,11 +71,11 @@ bridge-made n to content first e second made is one other same =
     (Ok e, there, (second, units_agree n.front n.wire to content first e second is one other, same))
 
 -- what is said where no first engine was made
-pub bridge-said : (n : Named) (to : Wire) (content : Option (List ℕ)) (first : Reported) (saying : Saying) (made : Result Bridging NoBridge)
-    → first ≡ Err saying → IsMadeIn (codes_in first) n.front n.wire content first
-    → made ≡ Err (record { saying = saying; engine = None }) → IsBridgeOf n to content made
-bridge-said n to content first saying made is one same =
-    (Err saying, subst (λ (r : Reported). IsMadeIn (codes_in r) n.front n.wire content r) is one, same)
+pub bridge-said : (n : Named) (to : Wire) (content : Option (List ℕ)) (first : Reported) (report : Report) (made : Result Bridging NoBridge)
+    → first ≡ Err report → IsMadeIn (codes_in first) n.front n.wire content first
+    → made ≡ Err (record { report = report; engine = None }) → IsBridgeOf n to content made
+bridge-said n to content first report made is one same =
+    (Err report, subst (λ (r : Reported). IsMadeIn (codes_in r) n.front n.wire content r) is one, same)
 
 -- the prefix that a shelf gave makes the bridge of its file
 pub bridge-decides : (n : Named) (to : Wire) (shelf : Option Files) (files : Files) (path part : List ℕ) (made : Result Bridging NoBridge)
@@ -86,7 +86,7 @@ bridge-decides n to shelf files path part made has known (reported, (read, says,
 
 -- what is said where there is no file
 pub bridge-absent : (n : Named) (to : Wire) (shelf : Option Files) (files : Files) (path : List ℕ) → LacksFile shelf path
-    → shelf ≡ Some files → IsBridgeOf n to (files path) (Err (record { saying = NoFile; engine = None }))
+    → shelf ≡ Some files → IsBridgeOf n to (files path) (Err (record { report = NoFile; engine = None }))
 bridge-absent n to shelf files path lacks known =
     let none : files path ≡ None = subst (λ (o : Option Files). LacksFile o path) known lacks in
     let says : FileSays n.front (files path) (Err NoFile) =
@@ -96,16 +96,16 @@ bridge-absent n to shelf files path lacks known =
 
 codes_known : (e : Coded) (second : Reported) (p : Prepared) → task_in p [] ≡ bridging_task e second → codes_of (engine_of p) ≡ e.stubs
 codes_known e (Ok x) p is = ap (λ (t : Task). codes_of t.engine) is
-codes_known e (Err saying) p is = ap (λ (t : Task). codes_of t.engine) is
+codes_known e (Err report) p is = ap (λ (t : Task). codes_of t.engine) is
 
 -- what is prepared of a bridge that was made, or of what is said in its place
 abbrev pub prepared_of : (made : Result Bridging NoBridge) → Task
 prepared_of (Ok s) = answering_task [] (jobs.Bridge s)
-prepared_of (Err none) = saying_task none.saying none.engine
+prepared_of (Err none) = report_task none.report none.engine
 
 made_task : (e : Coded) (second : Reported) → prepared_of (bridge_of e second) ≡ bridging_task e second
 made_task e (Ok x) = refl
-made_task e (Err saying) = refl
+made_task e (Err report) = refl
 
 bridged_task : (to : Wire) (reported : Reported) (made : Result Bridging NoBridge) (p : Prepared)
     → IsBridge to reported made → task_in p [] ≡ prepared_of made
@@ -113,7 +113,7 @@ bridged_task : (to : Wire) (reported : Reported) (made : Result Bridging NoBridg
 bridged_task to (Ok e) made p (second, is, same) task =
     let known = task ∙ ap prepared_of same ∙ made_task e second in
     (codes_known e second p known, (second, is, known))
-bridged_task to (Err saying) made p is task =
+bridged_task to (Err report) made p is task =
     let known = task ∙ ap prepared_of is in (ap (λ (t : Task). codes_of t.engine) known, known)
 
 pub bridge-prepared : (n : Named) (to : Wire) (content : Option (List ℕ)) (made : Result Bridging NoBridge) (p : Prepared)

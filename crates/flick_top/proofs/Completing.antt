@@ -8,7 +8,7 @@ use Rattle.raw_buf.specs.Buf.{Buf}
 use Rattle.stub_codes.specs.Stubs.{Coded}
 use Rattle.flick_top.specs.Laws.{WritesWhole, OutputsAreWhole}
 use Rattle.flick_top.specs.Outside.{Input, Held}
-use Rattle.flick_top.specs.Coming.{Files}
+use Rattle.flick_top.specs.Dispatch.{Files}
 use Rattle.flick_top.specs.Statement.{TakesMore, Completes, Works}
 use Rattle.flick_top.specs.Status.{number_of}
 

@@ -20,7 +20,7 @@ use Rattle.flick_top.specs.declared.job.Job.TheVariants.{Over, Pipe, Unpipe, Ser
 use Rattle.flick_top.specs.declared.items.Item.{Item}
 use Rattle.flick_top.specs.declared.items.Item.TheVariants as items
 use Rattle.flick_top.specs.Answer.{Answer, answer_by, answer_of, engine_in, frame_name, frame_refusal, Answering, IsTextTo, IsSentFor, IsLineAnswer, IsPartLine, IsAnswer, IsAnswering}
-use Rattle.flick_top.specs.Coming.{AreAnswered}
+use Rattle.flick_top.specs.Dispatch.{AreAnswered}
 
 -- each line has a text that answers it, and so has each message
 pub record TextsHave (job : Job) : Type 0 where

@@ -1,4 +1,4 @@
--- A file says one thing; over a back end it comes to one saying, or to engines that answer alike, with the same codes where these are.
+-- A file says one thing; over a back end it comes to one report, or to engines that answer alike, with the same codes where these are.
 use Rattle.std.proofs.Common.{◌≡◌, ℕ, List, length, Bool, true, false, Option, Some, None, Ok, Err, refl, sym, ◌∙◌, subst}
 use Rattle.std.specs.Prelude.{nat_le, MatchBool}
 use Rattle.kit_base.specs.Limits.{longest_file}
@@ -14,16 +14,16 @@ use Rattle.flick_engine.specs.declared.wire.Wire.{Wire}
 use Rattle.flick_engine.specs.Backs.{back_in}
 use Rattle.flick_lines.proofs.Twins.{AreTwins}
 use Rattle.flick_top.specs.declared.command.Named.{Named}
-use Rattle.flick_top.specs.declared.saying.Saying.TheVariants as sayings
+use Rattle.flick_top.specs.declared.report.Report.TheVariants as reports
 use Rattle.flick_top.specs.File.{Reported, IsOver, BindSays, BoundSays, FileSays}
 use Rattle.flick_top.specs.Fronts.{Read, UnitOf}
-use Rattle.flick_top.specs.Coming.{IsMadeOf}
+use Rattle.flick_top.specs.Dispatch.{IsMadeOf}
 use Rattle.flick_top.proofs.UnitsOfFronts.{one_unit}
 
 -- ---- what a file says
 
-within_says : (k : Front) (text : List ℕ) (r s : Read) (b : Bool) → MatchBool b (UnitOf k text r) (r ≡ Err sayings.TooLarge)
-    → MatchBool b (UnitOf k text s) (s ≡ Err sayings.TooLarge)
+within_says : (k : Front) (text : List ℕ) (r s : Read) (b : Bool) → MatchBool b (UnitOf k text r) (r ≡ Err reports.TooLarge)
+    → MatchBool b (UnitOf k text s) (s ≡ Err reports.TooLarge)
     → r ≡ s
 within_says k text r s true p q = one_unit k text r s p q
 within_says k text r s false p q = p ∙ sym q
@@ -40,7 +40,7 @@ pub record AreAlike (Shown : Type 0) (d e : Coded) : Type 0 where
   pub minors : d.minor ≡ e.minor
   pub codes : Shown → d.stubs ≡ e.stubs
 
--- one saying, or engines that answer alike
+-- one report, or engines that answer alike
 abbrev pub AreReported : Type 0 → Reported → Reported → Type 0
 AreReported Shown (Ok d) (Ok e) = AreAlike Shown d e
 AreReported Shown (Err e) (Err f) = e ≡ f
@@ -57,7 +57,7 @@ module _ (Shown : Type 0) (codes others : List Stub) (same : Shown → codes ≡
 
   bind_says : (w : Wire) (u : PlainUnit) (e : Option BindErr) (r s : Reported)
       → BindSays codes u w e r → BindSays others u w e s → AreReported Shown r s
-  bind_says w u (Some e) r s p q = reported_by r s (Err (sayings.Bind e)) (Err (sayings.Bind e)) p q refl
+  bind_says w u (Some e) r s p q = reported_by r s (Err (reports.Bind e)) (Err (reports.Bind e)) p q refl
   bind_says w u None (Ok c) (Ok d) p q =
       record {
         twins = twins (back_in w) u c.binding d.binding p.0.0 q.0.0;

@@ -3,15 +3,15 @@ use Rattle.std.proofs.Common.{◌≡◌, ℕ, ◌+◌, ◌<◌, ◌≤◌, Bool,
 use Rattle.std.specs.Prelude.{nat_le, MatchBool, Option, Some, Err}
 use Rattle.std.proofs.lemmas.List.{take_all, length-take-le}
 use Rattle.std.proofs.lemmas.Bool.Decides.{nat_tests}
-use Rattle.kit_base.specs.Limits.{longest_file}
+use Rattle.kit_base.specs.Limits.{longest_file, longest_replies}
 use Rattle.kit_base.specs.Memory.{HasFile}
 use Rattle.stub_codes.specs.Stubs.{Coded}
 use Rattle.idl_lex.specs.declared.kinds.Front.{Front}
-use Rattle.flick_top.specs.declared.saying.Saying.TheVariants.{TooLarge, LargeReplies}
-use Rattle.flick_top.specs.File.{FileSays, longest_replies}
+use Rattle.flick_top.specs.declared.report.Report.TheVariants.{TooLarge, LargeReplies}
+use Rattle.flick_top.specs.File.{FileSays}
 use Rattle.flick_top.specs.Fronts.{Read, UnitOf}
-use Rattle.flick_top.specs.Coming.{Files, ServesText, ServesFile}
-use Rattle.flick_top.specs.Task.{Task, saying_task}
+use Rattle.flick_top.specs.Dispatch.{Files, ServesText, ServesFile}
+use Rattle.flick_top.specs.Task.{Task, report_task}
 
 -- what is so of a text within a limit, or else this
 of_prefix : (n : ℕ) (P : List ℕ → Type 0) (Q : Type 0) (part whole : List ℕ) (b : Bool) → nat_le (length whole) n ≡ b
@@ -45,5 +45,5 @@ pub served-decides : (d : Coded) (shelf : Option Files) (files : Files) (path pa
 served-decides d shelf files path part task has e h =
     let (whole, found, cut) = subst (λ (o : Option Files). HasFile o path (1 + longest_replies) part) e has in
     subst (λ (c : Option (List ℕ)). ServesFile d c task) (sym found)
-    (of_prefix longest_replies (λ t. ServesText d t task) (task ≡ saying_task LargeReplies (Some d)) part whole
+    (of_prefix longest_replies (λ t. ServesText d t task) (task ≡ report_task LargeReplies (Some d)) part whole
     (nat_le (length whole) longest_replies) refl cut h)

@@ -1,6 +1,7 @@
 -- The engine that a command leaves of its file.
 use Rattle.std.proofs.Common.{◌≡◌, inl, inr, ℕ, List, length, Bool, true, false, Option, Some, None, Result, Ok, Err, refl, sym, ap, ◌∙◌, subst}
 use Rattle.std.specs.Prelude.{nat_le, MatchBool, IfSome, IsSomeAnd, IsOkAnd}
+use Rattle.kit_base.specs.Limits.{longest_replies}
 use Rattle.aoi.specs.Plain.{PlainUnit}
 use Rattle.pres.specs.declared.errors.BindErr.{BindErr}
 use Rattle.pres.specs.Faults.{bind_fault}
@@ -13,14 +14,14 @@ use Rattle.flick_top.specs.declared.command.Action.{Action}
 use Rattle.flick_top.specs.declared.command.Action.TheVariants as actions
 use Rattle.flick_top.specs.declared.command.Command.{Command}
 use Rattle.flick_top.specs.declared.command.Command.TheVariants as commands
-use Rattle.flick_top.specs.declared.saying.Saying.TheVariants.{LargeReplies}
+use Rattle.flick_top.specs.declared.report.Report.TheVariants.{LargeReplies}
 use Rattle.flick_top.specs.Command.{command_of, word_at}
-use Rattle.flick_top.specs.File.{Reported, IsOf, BindSays, BoundSays, longest_replies}
+use Rattle.flick_top.specs.File.{Reported, IsOf, BindSays, BoundSays}
 use Rattle.flick_top.specs.Fronts.{Read}
-use Rattle.flick_top.specs.Coming.{Files, serving_task, ServesText, ServesFile, Acts, ActsOver, bridging_task, Bridges, Comes}
+use Rattle.flick_top.specs.Dispatch.{Files, serving_task, ServesText, ServesFile, Acts, ActsOver, bridging_task, Bridges, TaskOf}
 use Rattle.flick_top.specs.Laws.{BoundFilesLeaveEngines}
 use Rattle.flick_top.specs.Made.{codes_of, IsEngineOver, LeavesEngine}
-use Rattle.flick_top.specs.Task.{Task, saying_task}
+use Rattle.flick_top.specs.Task.{Task, report_task}
 use Rattle.flick_top.proofs.FilesSay.{file_says}
 
 -- what a file of replies gives is answered, or refused, by the engine
@@ -29,7 +30,7 @@ given_engine e text (Ok g) = refl
 given_engine e text (Err line) = refl
 
 within_engine : (e : Coded) (text : List ℕ) (task : Task) (b : Bool)
-    → MatchBool b (ServesText e text task) (task ≡ saying_task LargeReplies (Some e)) → task.engine ≡ Some e
+    → MatchBool b (ServesText e text task) (task ≡ report_task LargeReplies (Some e)) → task.engine ≡ Some e
 within_engine e text task true (x, gives, is) = ap (λ (t : Task). t.engine) is ∙ given_engine e text x
 within_engine e text task false is = ap (λ (t : Task). t.engine) is
 
@@ -71,7 +72,7 @@ bound_over codes w read u reported is none says =
 -- the task of a bridge has the engine of the messages that are read
 bridging_engine : (e : Coded) (second : Reported) → (bridging_task e second).engine ≡ Some e
 bridging_engine e (Ok x) = refl
-bridging_engine e (Err saying) = refl
+bridging_engine e (Err report) = refl
 
 bridged_leaves : (codes : List Stub) (u : PlainUnit) (w to : Wire) (reported : Reported) (task : Task)
     → IsOkAnd reported (λ e. IsOf u w e × (e.stubs ≡ codes)) → Bridges to reported task
@@ -81,7 +82,7 @@ bridged_leaves codes u w to (Ok e) task over (second, is, same) coded =
 bridged_leaves codes u w to (Err f) task over bridges coded = absurd over
 
 leaves : (codes : List Stub) (command : Option Command) (words : List (List ℕ)) (files : Files) (task : Task)
-    → Comes codes command words files task → IfSome task.engine IsCoded → LeavesEngine task.engine command words files
+    → TaskOf codes command words files task → IfSome task.engine IsCoded → LeavesEngine task.engine command words files
 leaves codes None words files task comes coded = tt
 leaves codes (Some commands.Help) words files task comes coded = tt
 leaves codes (Some commands.Version) words files task comes coded = tt

@@ -28,9 +28,9 @@ pub mod Doing
 pub mod Existing
 -- * A file's prefix of one octet more than its limit says what the whole file says
 pub mod Front
--- * A text has a unit that is sound, or a saying, and one alone, whatever its front end
+-- * A text has a unit that is sound, or a report, and one alone, whatever its front end
 pub mod UnitsOfFronts
--- A file says one thing; over a back end it comes to one saying, or to engines that answer alike, with the same codes where these are
+-- A file says one thing; over a back end it comes to one report, or to engines that answer alike, with the same codes where these are
 pub mod FilesSay
 -- * What a file comes to with messages of two formats: engines of one unit, or what is said instead
 pub mod Bridging

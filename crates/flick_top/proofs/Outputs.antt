@@ -4,6 +4,7 @@ use Rattle.std.specs.Prelude.{codes, nat_le, MatchBool, if◌then◌else◌}
 use Rattle.hex.specs.Hex.{decode_of, encode_lower}
 use Rattle.kit_base.specs.declared.lines.Line.{Line}
 use Rattle.kit_base.specs.declared.lines.Line.TheVariants.{Text, Long, End}
+use Rattle.kit_base.specs.Limits.{longest_replies}
 use Rattle.wire_def.specs.declared.encoding.Back.{Back}
 use Rattle.wire_frames.specs.declared.messages.Part.{Part}
 use Rattle.wire_frames.specs.declared.messages.Part.TheVariants as part
@@ -33,20 +34,20 @@ use Rattle.flick_top.specs.declared.command.Command.{Command}
 use Rattle.flick_top.specs.declared.command.Command.TheVariants as commands
 use Rattle.flick_top.specs.declared.job.Job.{Job}
 use Rattle.flick_top.specs.declared.job.Job.TheVariants as jobs
-use Rattle.flick_top.specs.declared.saying.Saying.{Saying}
-use Rattle.flick_top.specs.declared.saying.Saying.TheVariants as sayings
+use Rattle.flick_top.specs.declared.report.Report.{Report}
+use Rattle.flick_top.specs.declared.report.Report.TheVariants as reports
 use Rattle.flick_top.specs.declared.status.Status.{Status}
 use Rattle.flick_top.specs.declared.items.Item.{Item}
 use Rattle.flick_top.specs.declared.items.Item.TheVariants as items
 use Rattle.flick_top.specs.Answer.{Answer, answer_by, answer_of, engine_in, frame_of, is_refusal, written_of, Answering, IsTextTo, IsLineAnswer, IsPartLine, IsAnswer, answers, refuses, cutting_of}
-use Rattle.flick_top.specs.Coming.{Files, showing_task, text_before, serving_task, ServesText, ServesFile, Acts, ActsOver, IsSecond, bridging_task, Bridges, Comes, AreAnswered}
+use Rattle.flick_top.specs.Dispatch.{Files, showing_task, text_before, serving_task, ServesText, ServesFile, Acts, ActsOver, IsSecond, bridging_task, Bridges, TaskOf, AreAnswered}
 use Rattle.flick_top.specs.Command.{command_of, word_at}
-use Rattle.flick_top.specs.File.{Reported, BoundSays, codes_in, longest_replies}
+use Rattle.flick_top.specs.File.{Reported, BoundSays, codes_in}
 use Rattle.flick_top.specs.Fronts.{Read}
 use Rattle.flick_top.specs.Items.{Cutting, by_frames}
 use Rattle.flick_top.specs.Laws.{IsOverCodes, ShowsCodes, OneOutput}
 use Rattle.flick_top.specs.Status.{number_of}
-use Rattle.flick_top.specs.Task.{Task, saying_task, answering_task, writing_task, shapeless_task, items_of, Out, out_of}
+use Rattle.flick_top.specs.Task.{Task, report_task, answering_task, writing_task, usage_task, items_of, Out, out_of}
 use Rattle.flick_top.proofs.Determined.{one_part, one_text}
 use Rattle.flick_top.proofs.Bridging.{bridging_stands}
 use Rattle.flick_top.proofs.FilesSay.{AreAlike, AreReported, bound_says, file_says, reported_alike}
@@ -80,11 +81,11 @@ tasks_by t u x y p q h = subst (λ (z : Task). AreTasks z u) (sym p) (subst (λ 
 no_feed : (t u x : Task) → x.feed ≡ None → t ≡ x → u ≡ x → AreTasks t u
 no_feed t u x none p q = tasks_by t u x x p q (record { text = refl; status = refl; feeds = rw none tt })
 
--- a saying over any engines
-refused_alike : (saying : Saying) (d e : Coded) (t u : Task) → t ≡ saying_task saying (Some d) → u ≡ saying_task saying (Some e)
+-- a report over any engines
+refused_alike : (report : Report) (d e : Coded) (t u : Task) → t ≡ report_task report (Some d) → u ≡ report_task report (Some e)
     → AreTasks t u
-refused_alike saying d e t u p q =
-    tasks_by t u (saying_task saying (Some d)) (saying_task saying (Some e)) p q (record { text = refl; status = refl; feeds = tt })
+refused_alike report d e t u p q =
+    tasks_by t u (report_task report (Some d)) (report_task report (Some e)) p q (record { text = refl; status = refl; feeds = tt })
 
 -- servers over such engines with one text
 servers_alike : (d e : Coded) → AreTwins d.binding e.binding → d.minor ≡ e.minor → (text : List ℕ)
@@ -103,7 +104,7 @@ given_alike : (d e : Coded) → AreTwins d.binding e.binding → d.minor ≡ e.m
 given_alike d e alike minors text (Ok g) t u p q =
     tasks_by t u (serving_task d text (Ok g)) (serving_task e text (Ok g)) p q
     (record { text = refl; status = refl; feeds = servers_alike d e alike minors text })
-given_alike d e alike minors text (Err line) t u p q = refused_alike (sayings.WrongReply line) d e t u p q
+given_alike d e alike minors text (Err line) t u p q = refused_alike (reports.WrongReply line) d e t u p q
 
 serves_text : (d e : Coded) → AreTwins d.binding e.binding → d.minor ≡ e.minor → (text : List ℕ) (t u : Task) → ServesText d text t
     → ServesText e text u → AreTasks t u
@@ -112,14 +113,14 @@ serves_text d e alike minors text t u (x, gives, p) (y, also, q) =
     given_alike d e alike minors text y t u (p ∙ ap (λ (z : Result Given ℕ). serving_task d text z) same) q
 
 within_serves : (d e : Coded) → AreTwins d.binding e.binding → d.minor ≡ e.minor → (text : List ℕ) (t u : Task) (b : Bool)
-    → MatchBool b (ServesText d text t) (t ≡ saying_task sayings.LargeReplies (Some d))
-    → MatchBool b (ServesText e text u) (u ≡ saying_task sayings.LargeReplies (Some e)) → AreTasks t u
+    → MatchBool b (ServesText d text t) (t ≡ report_task reports.LargeReplies (Some d))
+    → MatchBool b (ServesText e text u) (u ≡ report_task reports.LargeReplies (Some e)) → AreTasks t u
 within_serves d e alike minors text t u true p q = serves_text d e alike minors text t u p q
-within_serves d e alike minors text t u false p q = refused_alike sayings.LargeReplies d e t u p q
+within_serves d e alike minors text t u false p q = refused_alike reports.LargeReplies d e t u p q
 
 serves_file : (d e : Coded) → AreTwins d.binding e.binding → d.minor ≡ e.minor → (content : Option (List ℕ)) (t u : Task)
     → ServesFile d content t → ServesFile e content u → AreTasks t u
-serves_file d e alike minors None t u p q = refused_alike sayings.NoReplies d e t u p q
+serves_file d e alike minors None t u p q = refused_alike reports.NoReplies d e t u p q
 serves_file d e alike minors (Some text) t u p q = within_serves d e alike minors text t u (nat_le (length text) longest_replies) p q
 
 -- bridges between such engines
@@ -152,7 +153,7 @@ second_alike d e to twins minors (Ok x) (Ok y) p q alike t u is other =
 second_alike d e to twins minors (Ok x) (Err f) p q alike t u is other = absurd alike
 second_alike d e to twins minors (Err g) (Ok y) p q alike t u is other = absurd alike
 second_alike d e to twins minors (Err g) (Err f) p q alike t u is other =
-    refused_alike f d e t u (is ∙ ap (λ (s : Saying). saying_task s (Some d)) alike) other
+    refused_alike f d e t u (is ∙ ap (λ (s : Report). report_task s (Some d)) alike) other
 
 bridged_alike : (to : Wire) (r s : Reported) → AreReported ⊥ r s → (t u : Task) → Bridges to r t → Bridges to s u → AreTasks t u
 bridged_alike to (Ok d) (Ok e) alike t u (x, p, is) (y, q, other) =
@@ -162,7 +163,7 @@ bridged_alike to (Ok d) (Ok e) alike t u (x, p, is) (y, q, other) =
 bridged_alike to (Ok d) (Err f) alike t u p q = absurd alike
 bridged_alike to (Err g) (Ok e) alike t u p q = absurd alike
 bridged_alike to (Err g) (Err f) alike t u p q =
-    no_feed t u (saying_task f None) refl (p ∙ ap (λ (s : Saying). saying_task s None) alike) q
+    no_feed t u (report_task f None) refl (p ∙ ap (λ (s : Report). report_task s None) alike) q
 
 -- where an action shows the codes, a verb that is `count` does
 verb_alike : (v : Verb) (d e : Coded) → AreAlike (IsOverCodes (actions.Answer v)) d e → AreAlike (v ≡ Count) d e
@@ -232,17 +233,17 @@ over_reported a (Ok d) (Ok e) same words files t u p q = acts_alike a d e same w
 over_reported a (Ok d) (Err f) same words files t u p q = absurd same
 over_reported a (Err e) (Ok c) same words files t u p q = absurd same
 over_reported a (Err e) (Err f) same words files t u p q =
-    no_feed t u (saying_task f None) refl (p ∙ ap (λ (x : Saying). saying_task x None) same) q
+    no_feed t u (report_task f None) refl (p ∙ ap (λ (x : Report). report_task x None) same) q
 
 shown_alike : (r : Read) (t u : Task) → t ≡ showing_task r → u ≡ showing_task r → AreTasks t u
 shown_alike (Ok v) t u p q = no_feed t u (writing_task (show_text v) [] None) refl p q
-shown_alike (Err saying) t u p q = no_feed t u (saying_task saying None) refl p q
+shown_alike (Err report) t u p q = no_feed t u (report_task report None) refl p q
 
 over_files : (codes others : List Stub) (command : Option Command) (words : List (List ℕ)) (files : Files) (t u : Task)
-    → (ShowsCodes command → codes ≡ others) → Comes codes command words files t → Comes others command words files u → AreTasks t u
-over_files codes others None words files t u shown p q = no_feed t u shapeless_task refl p q
-over_files codes others (Some commands.Help) words files t u shown p q = no_feed t u (saying_task sayings.Help None) refl p q
-over_files codes others (Some commands.Version) words files t u shown p q = no_feed t u (saying_task sayings.Version None) refl p q
+    → (ShowsCodes command → codes ≡ others) → TaskOf codes command words files t → TaskOf others command words files u → AreTasks t u
+over_files codes others None words files t u shown p q = no_feed t u usage_task refl p q
+over_files codes others (Some commands.Help) words files t u shown p q = no_feed t u (report_task reports.Help None) refl p q
+over_files codes others (Some commands.Version) words files t u shown p q = no_feed t u (report_task reports.Version None) refl p q
 over_files codes others (Some (commands.Show front)) words files t u shown (r, says, p) (s, also, q) =
     let same : r ≡ s = file_says front (files (word_at words 2)) r s says also in
     shown_alike s t u (p ∙ ap (λ (x : Read). showing_task x) same) q

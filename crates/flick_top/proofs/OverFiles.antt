@@ -15,12 +15,12 @@ use Rattle.flick_top.specs.declared.command.Command.TheVariants.{Over, Bridge}
 use Rattle.flick_top.specs.declared.command.Named.{Named}
 use Rattle.flick_top.specs.declared.job.Job.{Job}
 use Rattle.flick_top.specs.declared.prepared.Prepared.{Prepared}
-use Rattle.flick_top.specs.declared.saying.Saying.{Saying}
-use Rattle.flick_top.specs.Coming.{Files, IsMadeOf, BridgesFile, ServesFile, Acts, Comes}
+use Rattle.flick_top.specs.declared.report.Report.{Report}
+use Rattle.flick_top.specs.Dispatch.{Files, IsMadeOf, BridgesFile, ServesFile, Acts, TaskOf}
 use Rattle.flick_top.specs.Command.{word_at}
 use Rattle.flick_top.specs.File.{Reported, codes_in}
 use Rattle.flick_top.specs.Made.{HasCodes, codes_of}
-use Rattle.flick_top.specs.Task.{Task, engine_of, saying_task, task_in, writing_task}
+use Rattle.flick_top.specs.Task.{Task, engine_of, report_task, task_in, writing_task}
 use Rattle.flick_top.specs.Turn.{AreFirst, ActsIn, ComesIn}
 use Rattle.flick_top.proofs.Tasking.{is-in}
 
@@ -48,10 +48,10 @@ acted-comes (Err f) command a n words reported e told after old new is ok same m
 -- ---- what a command comes to for whose text nothing was sent
 
 pub alone-comes : (command k : Command) (words : List (List ℕ)) (files : Files) (p : Prepared) (buf : Buf) → command ≡ k
-    → Comes (codes_of (engine_of p)) (Some k) words files (task_in p []) → ComesIn (Some command) words files p buf buf
+    → TaskOf (codes_of (engine_of p)) (Some k) words files (task_in p []) → ComesIn (Some command) words files p buf buf
 alone-comes command k words files p buf is comes =
-    is-in (Comes (codes_of (engine_of p)) (Some command) words files) p buf
-    (subst (λ (x : Command). Comes (codes_of (engine_of p)) (Some x) words files (task_in p [])) (sym is) comes)
+    is-in (TaskOf (codes_of (engine_of p)) (Some command) words files) p buf
+    (subst (λ (x : Command). TaskOf (codes_of (engine_of p)) (Some x) words files (task_in p [])) (sym is) comes)
 
 -- to bridge from the file at a path
 pub bridged-comes : {E : Type 0} (x : Result Prepared E) (command : Command) (n : Named) (to : Wire) (words : List (List ℕ))
@@ -65,14 +65,14 @@ bridged-comes (Err f) command n to words told path buf is at bridges = tt
 
 -- what is said in place of what would be made
 pub said-comes : (command : Command) (a : Action) (n : Named) (words : List (List ℕ)) (files : Files) (reported : Reported)
-    (saying : Saying) (p : Prepared) (buf : Buf) → command ≡ Over a n → reported ≡ Err saying → task_in p [] ≡ saying_task saying None
+    (report : Report) (p : Prepared) (buf : Buf) → command ≡ Over a n → reported ≡ Err report → task_in p [] ≡ report_task report None
     → IsMadeOf (codes_in reported) n (files (word_at words n.file)) reported → ComesIn (Some command) words files p buf buf
-said-comes command a n words files reported saying p buf is err said made =
+said-comes command a n words files reported report p buf is err said made =
     let none : engine_of p ≡ None = ap (λ (t : Task). t.engine) said in
-    let bound : IsMadeOf [] n (files (word_at words n.file)) (Err saying) =
+    let bound : IsMadeOf [] n (files (word_at words n.file)) (Err report) =
     subst (λ (r : Reported). IsMadeOf (codes_in r) n (files (word_at words n.file)) r) err made in
     alone-comes command (Over a n) words files p buf is
-    (Err saying, subst (λ (e : Option Coded). IsMadeOf (codes_of e) n (files (word_at words n.file)) (Err saying)) (sym none) bound, said)
+    (Err report, subst (λ (e : Option Coded). IsMadeOf (codes_of e) n (files (word_at words n.file)) (Err report)) (sym none) bound, said)
 
 -- ---- what an action comes to
 

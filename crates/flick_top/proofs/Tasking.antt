@@ -8,36 +8,36 @@ use Rattle.flick_lines.proofs.Sending.{spent-none}
 use Rattle.flick_top.specs.declared.command.Command.{Command}
 use Rattle.flick_top.specs.declared.job.Job.{Job}
 use Rattle.flick_top.specs.declared.prepared.Prepared.{Prepared}
-use Rattle.flick_top.specs.declared.saying.Saying.{Saying}
-use Rattle.flick_top.specs.declared.saying.Saying.TheVariants as sayings
+use Rattle.flick_top.specs.declared.report.Report.{Report}
+use Rattle.flick_top.specs.declared.report.Report.TheVariants as reports
 use Rattle.flick_top.specs.declared.status.Status.{Status}
 use Rattle.flick_top.specs.Answer.{Answering, answer_of}
-use Rattle.flick_top.specs.Coming.{Files, Comes, IsTask, AreAnswered}
+use Rattle.flick_top.specs.Dispatch.{Files, TaskOf, IsTask, AreAnswered}
 use Rattle.flick_top.specs.Command.{command_of}
 use Rattle.flick_top.specs.Made.{codes_of}
 use Rattle.flick_top.specs.Outside.{Input, Held}
-use Rattle.flick_top.specs.Saying.{ending}
+use Rattle.flick_top.specs.Report.{report_status}
 use Rattle.flick_top.specs.Statement.{Done, Works}
 use Rattle.flick_top.specs.Status.{usage}
-use Rattle.flick_top.specs.Task.{Task, engine_of, shapeless_task, task_in}
+use Rattle.flick_top.specs.Task.{Task, engine_of, usage_task, task_in}
 use Rattle.flick_top.specs.Turn.{AreFirst, ComesIn, EndsAs, IsIn}
 use Rattle.flick_top.proofs.Doing.{with-before}
 
 -- to say something ends so
-pub saying-ends : (saying : Saying) (status : Status) → status ≡ ending saying → EndsAs None status
-saying-ends saying status is = subst (λ (x : Status). EndsAs None x) (sym is) (ends saying) where
-  ends : (saying : Saying) → EndsAs None (ending saying)
-  ends sayings.Help = inl refl
-  ends sayings.Version = inl refl
-  ends sayings.NoFile = inr refl
-  ends sayings.TooLarge = inr refl
-  ends (sayings.Lex fault) = inr refl
-  ends (sayings.Syntax line) = inr refl
-  ends (sayings.Name error) = inr refl
-  ends (sayings.Bind reason) = inr refl
-  ends sayings.NoReplies = inr refl
-  ends sayings.LargeReplies = inr refl
-  ends (sayings.WrongReply line) = inr refl
+pub report-ends : (report : Report) (status : Status) → status ≡ report_status report → EndsAs None status
+report-ends report status is = subst (λ (x : Status). EndsAs None x) (sym is) (ends report) where
+  ends : (report : Report) → EndsAs None (report_status report)
+  ends reports.Help = inl refl
+  ends reports.Version = inl refl
+  ends reports.NoFile = inr refl
+  ends reports.TooLarge = inr refl
+  ends (reports.Lex fault) = inr refl
+  ends (reports.Syntax line) = inr refl
+  ends (reports.Name error) = inr refl
+  ends (reports.Bind reason) = inr refl
+  ends reports.NoReplies = inr refl
+  ends reports.LargeReplies = inr refl
+  ends (reports.WrongReply line) = inr refl
 
 -- ---- without the buffer
 
@@ -53,11 +53,11 @@ is-in Is p buf is = ([], is, spent-none true buf, none_first p.feed)
 
 is_task : (words : List (List ℕ)) (files : Files) (task : Task) (made : Option Coded) (p : Prepared) (found : Option Command)
     (command : Command) → found ≡ command_of words → found ≡ Some command → made ≡ engine_of p
-    → Comes (codes_of (engine_of p)) (Some command) words files task → IsTask (codes_of made) words files task
+    → TaskOf (codes_of (engine_of p)) (Some command) words files task → IsTask (codes_of made) words files task
 is_task words files task made p found command is some left comes =
-    let same : Comes (codes_of made) (Some command) words files task =
-    subst (λ (o : Option Coded). Comes (codes_of o) (Some command) words files task) (sym left) comes in
-    subst (λ (o : Option Command). Comes (codes_of made) o words files task) (sym some ∙ is) same
+    let same : TaskOf (codes_of made) (Some command) words files task =
+    subst (λ (o : Option Coded). TaskOf (codes_of o) (Some command) words files task) (sym left) comes in
+    subst (λ (o : Option Command). TaskOf (codes_of made) o words files task) (sym some ∙ is) same
 
 -- what was done of what is prepared is the work of the words
 pub work-of : (words : List (List ℕ)) (files : Files) (made : Option Coded) (p : Prepared) (f : Answering) (found : Option Command)
@@ -79,11 +79,11 @@ work-of words files made p f found command left left' before now held held' old 
 pub shapeless-work : (made : Option Coded) (words : List (List ℕ)) (files : Files) (left : Input) (faults : ℕ) (held : Held) (buf : Buf)
     → made ≡ None → command_of words ≡ None → Works made words files left left faults faults held held buf buf usage
 shapeless-work made words files left faults held buf same none = inr (
-  shapeless_task,
+  usage_task,
   (λ item. answer_of [] nothing),
-  subst (λ (o : Option Command). Comes (codes_of made) o words files shapeless_task) (sym none) refl,
+  subst (λ (o : Option Command). TaskOf (codes_of made) o words files usage_task) (sym none) refl,
   tt,
-  subst (λ (e : Option Coded). Done shapeless_task (λ item. answer_of [] nothing) e left left faults faults held held buf buf usage)
+  subst (λ (e : Option Coded). Done usage_task (λ item. answer_of [] nothing) e left left faults faults held held buf buf usage)
       (sym same)
       (record {
         output = λ few input reported. (refl, Appends-nil held);

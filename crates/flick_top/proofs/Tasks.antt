@@ -1,7 +1,7 @@
 -- All words and files have a task.
 use Rattle.std.proofs.Common.{◌≡◌, ℕ, Bool, true, false, List, [], length, Option, Some, None, Ok, Err, refl}
 use Rattle.std.specs.Prelude.{nat_le, MatchBool}
-use Rattle.kit_base.specs.Limits.{longest_file}
+use Rattle.kit_base.specs.Limits.{longest_file, longest_replies}
 use Rattle.idl_lex.specs.declared.kinds.Front.{Front}
 use Rattle.aoi.specs.Plain.{PlainUnit, IsSoundPlain}
 use Rattle.pres.specs.declared.errors.BindErr.{BindErr}
@@ -20,20 +20,20 @@ use Rattle.flick_top.specs.declared.command.Action.TheVariants as actions
 use Rattle.flick_top.specs.declared.command.Command.{Command}
 use Rattle.flick_top.specs.declared.command.Command.TheVariants as commands
 use Rattle.flick_top.specs.declared.job.Job.TheVariants as jobs
-use Rattle.flick_top.specs.declared.saying.Saying.TheVariants as sayings
+use Rattle.flick_top.specs.declared.report.Report.TheVariants as reports
 use Rattle.flick_top.specs.Command.{command_of, word_at}
-use Rattle.flick_top.specs.File.{Reported, BindSays, BoundSays, FileSays, codes_in, longest_replies}
+use Rattle.flick_top.specs.File.{Reported, BindSays, BoundSays, FileSays, codes_in}
 use Rattle.flick_top.specs.Fronts.{Read, UnitOf}
 use Rattle.flick_top.specs.Laws.{WordsHaveTasks}
-use Rattle.flick_top.specs.Coming.{Files, showing_task, text_before, serving_task, ServesText, ServesFile, Acts, ActsOver, bridging_task, Bridges, Comes}
-use Rattle.flick_top.specs.Task.{Task, saying_task, answering_task, writing_task, shapeless_task}
+use Rattle.flick_top.specs.Dispatch.{Files, showing_task, text_before, serving_task, ServesText, ServesFile, Acts, ActsOver, bridging_task, Bridges, TaskOf}
+use Rattle.flick_top.specs.Task.{Task, report_task, answering_task, writing_task, usage_task}
 use Rattle.flick_top.proofs.UnitsOfFronts.{IsSoundRead, unit_has}
 
 -- ---- over a back end
 
 bind_has : (codes : List Stub) (u : PlainUnit) (w : Wire) (e : Option BindErr) → IsSoundPlain u → bind_fault u (back_in w) ≡ e
     → (reported : Reported) × BindSays codes u w e reported
-bind_has codes u w (Some e) sound is = (Err (sayings.Bind e), refl)
+bind_has codes u w (Some e) sound is = (Err (reports.Bind e), refl)
 bind_has codes u w None sound is =
     let (b, stands, unit, of, nodes) = units_bound u (back_in w) sound is in (
       Ok (record { binding = b; minor = minor_in w; stubs = codes }),
@@ -41,14 +41,14 @@ bind_has codes u w None sound is =
     )
 
 bound_has : (codes : List Stub) (w : Wire) (read : Read) → IsSoundRead read → (reported : Reported) × BoundSays codes w read reported
-bound_has codes w (Err saying) sound = (Err saying, refl)
+bound_has codes w (Err report) sound = (Err report, refl)
 bound_has codes w (Ok u) sound = bind_has codes u w (bind_fault u (back_in w)) sound refl
 
 -- ---- a second format
 
 bind_second : (u : PlainUnit) (w : Wire) (e : Option BindErr) → IsSoundPlain u → bind_fault u (back_in w) ≡ e
     → (second : Reported) × BindSays (codes_in second) u w e second
-bind_second u w (Some e) sound is = (Err (sayings.Bind e), refl)
+bind_second u w (Some e) sound is = (Err (reports.Bind e), refl)
 bind_second u w None sound is =
     let (b, stands, unit, of, nodes) = units_bound u (back_in w) sound is in (
       Ok (record { binding = b; minor = minor_in w; stubs = [] }),
@@ -62,12 +62,12 @@ bound_sound codes u w (Some x) e is = absurd (cc is)
 bound_sound codes u w None e (over, same) = over.0.stands.sound
 
 engine_sound : (codes : List Stub) (w : Wire) (read : Read) (e : Coded) → BoundSays codes w read (Ok e) → IsSoundPlain e.binding.unit
-engine_sound codes w (Err saying) e is = absurd (cc is)
+engine_sound codes w (Err report) e is = absurd (cc is)
 engine_sound codes w (Ok u) e says = bound_sound codes u w (bind_fault u (back_in w)) e says
 
 bridges_have : (codes : List Stub) (w to : Wire) (read : Read) (reported : Reported) → BoundSays codes w read reported
     → (task : Task) × Bridges to reported task
-bridges_have codes w to read (Err saying) bound = (saying_task saying None, refl)
+bridges_have codes w to read (Err report) bound = (report_task report None, refl)
 bridges_have codes w to read (Ok e) bound =
     let u = e.binding.unit in
     let (second, is) = bind_second u to (bind_fault u (back_in to)) (engine_sound codes w read e bound) refl in
@@ -76,23 +76,23 @@ bridges_have codes w to read (Ok e) bound =
 -- ---- a file
 
 within_has : (k : Front) (text : List ℕ) (b : Bool) → nat_le (length text) longest_file ≡ b
-    → (read : Read) × MatchBool b (UnitOf k text read) (read ≡ Err sayings.TooLarge) × IsSoundRead read
+    → (read : Read) × MatchBool b (UnitOf k text read) (read ≡ Err reports.TooLarge) × IsSoundRead read
 within_has k text true is = unit_has k text
-within_has k text false is = (Err sayings.TooLarge, refl, tt)
+within_has k text false is = (Err reports.TooLarge, refl, tt)
 
 file_has : (k : Front) (content : Option (List ℕ)) → (read : Read) × FileSays k content read × IsSoundRead read
-file_has k None = (Err sayings.NoFile, refl, tt)
+file_has k None = (Err reports.NoFile, refl, tt)
 file_has k (Some text) = within_has k text (nat_le (length text) longest_file) refl
 
 -- ---- words
 
 within_serves : (e : Coded) (text : List ℕ) (b : Bool)
-    → (task : Task) × MatchBool b (ServesText e text task) (task ≡ saying_task sayings.LargeReplies (Some e))
+    → (task : Task) × MatchBool b (ServesText e text task) (task ≡ report_task reports.LargeReplies (Some e))
 within_serves e text true = let (x, gives) = given_somehow e.binding text in (serving_task e text x, (x, gives, refl))
-within_serves e text false = (saying_task sayings.LargeReplies (Some e), refl)
+within_serves e text false = (report_task reports.LargeReplies (Some e), refl)
 
 serves_has : (e : Coded) (content : Option (List ℕ)) → (task : Task) × ServesFile e content task
-serves_has e None = (saying_task sayings.NoReplies (Some e), refl)
+serves_has e None = (report_task reports.NoReplies (Some e), refl)
 serves_has e (Some text) = within_serves e text (nat_le (length text) longest_replies)
 
 action_has : (a : Action) (e : Coded) (words : List (List ℕ)) (files : Files) → (task : Task) × Acts a e words files task
@@ -107,13 +107,13 @@ action_has (actions.Make number many) e words files =
 reported_has : (a : Action) (reported : Reported) (words : List (List ℕ)) (files : Files)
     → (task : Task) × ActsOver a reported words files task
 reported_has a (Ok e) words files = action_has a e words files
-reported_has a (Err saying) words files = (saying_task saying None, refl)
+reported_has a (Err report) words files = (report_task report None, refl)
 
 command_has : (codes : List Stub) (command : Option Command) (words : List (List ℕ)) (files : Files)
-    → (task : Task) × Comes codes command words files task
-command_has codes None words files = (shapeless_task, refl)
-command_has codes (Some commands.Help) words files = (saying_task sayings.Help None, refl)
-command_has codes (Some commands.Version) words files = (saying_task sayings.Version None, refl)
+    → (task : Task) × TaskOf codes command words files task
+command_has codes None words files = (usage_task, refl)
+command_has codes (Some commands.Help) words files = (report_task reports.Help None, refl)
+command_has codes (Some commands.Version) words files = (report_task reports.Version None, refl)
 command_has codes (Some (commands.Show front)) words files =
     let (read, says, sound) = file_has front (files (word_at words 2)) in
     (showing_task read, (read, says, refl))

@@ -20,7 +20,7 @@ use Rattle.flick_lines.proofs.Twins.{AreTwins, faces_in, AreSame, ops_alike, fir
 use Rattle.flick_texts.specs.Counted.{messages_from, made_line}
 use Rattle.flick_texts.specs.MadeText.{turn, made_head, made_message, messages, make_text}
 use Rattle.flick_texts.specs.StubTexts.{sent_text, both_texts, texts_of, stubs_text}
-use Rattle.flick_top.specs.Coming.{text_before}
+use Rattle.flick_top.specs.Dispatch.{text_before}
 use Rattle.flick_top.proofs.FilesSay.{AreAlike}
 
 -- ---- stub code

@@ -1,4 +1,4 @@
--- A text has a unit that is sound, or a saying, and one alone, whatever its front end.
+-- A text has a unit that is sound, or a report, and one alone, whatever its front end.
 use Rattle.std.proofs.Common.{◌≡◌, ◌⊎◌, inl, inr, ℕ, ◌≤◌, List, [], ◌∷◌, ◌++◌, length, Some, Result, Ok, Err, refl, sym, ap, ◌∙◌, subst, arith}
 use Rattle.std.specs.Prelude.{IfOk, codes}
 use Rattle.idl_lex.specs.declared.kinds.Front.{Front}
@@ -33,21 +33,21 @@ use Rattle.front_corba.proofs.Derived.{derived_whole as corba_whole}
 use Rattle.front_corba.proofs.Whole.{resolved_sound as corba_sound}
 use Rattle.front_mig.specs.Resolved.{resolved as mig_resolved}
 use Rattle.front_mig.proofs.Whole.{resolved_sound as mig_sound}
-use Rattle.flick_top.specs.declared.saying.Saying.{Saying}
-use Rattle.flick_top.specs.declared.saying.Saying.TheVariants as sayings
+use Rattle.flick_top.specs.declared.report.Report.{Report}
+use Rattle.flick_top.specs.declared.report.Report.TheVariants as reports
 use Rattle.flick_top.specs.File.{plainly}
 use Rattle.flick_top.specs.Fronts.{Read, in_words, Says, TokensSay, UnitOf}
 
 -- what was read is a sound unit, if it is a unit
 abbrev pub IsSoundRead : Read → Type 0
 IsSoundRead (Ok u) = IsSoundPlain u
-IsSoundRead (Err saying) = Unit {0}
+IsSoundRead (Err report) = Unit {0}
 
--- a unit of the text that is sound, or a saying
+-- a unit of the text that is sound, or a report
 abbrev pub Has : Front → List ℕ → Type 0
 Has k text = (read : Read) × UnitOf k text read × IsSoundRead read
 
--- a unit of the tokens that is sound, or a saying
+-- a unit of the tokens that is sound, or a report
 abbrev TokensHave : Front → List Token → Type 0
 TokensHave k tokens = (read : Read) × TokensSay k tokens read × IsSoundRead read
 
@@ -84,7 +84,7 @@ said_once T D F resolved one line tokens r s (inl (a, da, ea)) (inl (b, db, eb))
 said_once T D F resolved one line tokens r s (inl (a, da, ea)) (inr (m, none, g, eb)) = absurd (none a da)
 said_once T D F resolved one line tokens r s (inr (l, none, f, ea)) (inl (b, db, eb)) = absurd (none b db)
 said_once T D F resolved one line tokens r s (inr (l, none, f, ea)) (inr (m, more, g, eb)) =
-    ea ∙ ap (λ (n : ℕ). Err (sayings.Syntax n)) (line tokens l m f g) ∙ sym eb
+    ea ∙ ap (λ (n : ℕ). Err (reports.Syntax n)) (line tokens l m f g) ∙ sym eb
 
 words_sound : (x : Result PlainUnit NameErr) → ((u : PlainUnit) → x ≡ Ok u → IsSoundPlain u) → IsSoundRead (in_words x)
 words_sound (Err e) f = tt
@@ -102,7 +102,7 @@ onc_have : (tokens : List Token)
 onc_have tokens (inl (tree, derives)) =
     let sound = words_sound (onc_resolved tree) (λ u is. onc_sound tree u (onc_whole tree tokens derives) is) in
     (in_words (onc_resolved tree), inl (tree, derives, refl), sound)
-onc_have tokens (inr (line, none, fails)) = (Err (sayings.Syntax line), inr (line, none, fails, refl), tt)
+onc_have tokens (inr (line, none, fails)) = (Err (reports.Syntax line), inr (line, none, fails, refl), tt)
 
 -- ---- CORBA IDL files
 
@@ -116,7 +116,7 @@ corba_have : (tokens : List Token)
 corba_have tokens (inl (tree, derives)) =
     let sound = words_sound (corba_resolved tree) (λ u is. corba_sound tree u (corba_whole tree tokens derives) is) in
     (in_words (corba_resolved tree), inl (tree, derives, refl), sound)
-corba_have tokens (inr (line, none, fails)) = (Err (sayings.Syntax line), inr (line, none, fails, refl), tt)
+corba_have tokens (inr (line, none, fails)) = (Err (reports.Syntax line), inr (line, none, fails, refl), tt)
 
 -- ---- MIG files
 
@@ -138,7 +138,7 @@ mig_have : (tokens : List Token)
     → TokensHave front.Mig tokens
 mig_have tokens (inl (tree, derives)) =
     (in_words (mig_resolved tree), inl (tree, derives, refl), words_sound (mig_resolved tree) (mig_sound tree))
-mig_have tokens (inr (line, h)) = (Err (sayings.Syntax line), inr (line, h.0, h.1, refl), tt)
+mig_have tokens (inr (line, h)) = (Err (reports.Syntax line), inr (line, h.0, h.1, refl), tt)
 
 -- ---- each front end
 
@@ -161,13 +161,13 @@ one_unit k text r s (inl (a, (ps, first, ta), ra)) (inl (b, (qs, second, tb), sb
     tokens_once k b r s (subst (λ (t : List Token). TokensSay k t r) same ra) sb
 one_unit k text r s (inl (a, (ps, stand, ta), ra)) (inr (f, is, sb)) = absurd (not_both k text ps f stand is)
 one_unit k text r s (inr (e, is, ra)) (inl (b, (qs, stand, tb), sb)) = absurd (not_both k text qs e stand is)
-one_unit k text r s (inr (e, is, ra)) (inr (f, js, sb)) = ra ∙ ap (λ x. Err (sayings.Lex x)) (same_fault k text e f is js) ∙ sym sb
+one_unit k text r s (inr (e, is, ra)) (inr (f, js, sb)) = ra ∙ ap (λ x. Err (reports.Lex x)) (same_fault k text e f is js) ∙ sym sb
 
 text_has : (k : Front) (text : List ℕ)
     → ((tokens : List Token) × AreTokens k text tokens) ⊎ ((fault : LexErr) × IsFirstFault k text fault)
     → Has k text
 text_has k text (inl (tokens, are)) = let h = tokens_have k tokens in (h.0, inl (tokens, are, h.1), h.2)
-text_has k text (inr (fault, is)) = (Err (sayings.Lex fault), inr (fault, is, refl), tt)
+text_has k text (inr (fault, is)) = (Err (reports.Lex fault), inr (fault, is, refl), tt)
 
 pub unit_has : (k : Front) (text : List ℕ) → Has k text
 unit_has k text = text_has k text (text_decided k text)
@@ -176,7 +176,7 @@ unit_has k text = text_has k text (text_decided k text)
 
 -- the unit of a tree that tokens have is what the tokens say
 pub tree-says : {T E : Type 0} (Derives : T → List Token → Type 0) (FailsAt : List Token → ℕ → Type 0)
-    (resolved : T → Result PlainUnit NameErr) (tokens : List Token) (tree : T) (x : Result (Result Parts Saying) E) → Derives tree tokens
+    (resolved : T → Result PlainUnit NameErr) (tokens : List Token) (tree : T) (x : Result (Result Parts Report) E) → Derives tree tokens
     → IfOk x (λ read. plainly read ≡ in_words (resolved tree)) → IfOk x (λ read. Says Derives FailsAt resolved tokens (plainly read))
 tree-says Derives FailsAt resolved tokens tree (Ok read) derives is = inl (tree, derives, is)
 tree-says Derives FailsAt resolved tokens tree (Err e) derives is = tt

@@ -14,13 +14,9 @@ use Rattle.pres.specs.Faults.{bind_fault}
 use Rattle.pres.specs.Made.{all_made}
 use Rattle.stub_codes.specs.declared.stub.Stub.{Stub}
 use Rattle.stub_codes.specs.Stubs.{Coded}
-use Rattle.flick_top.specs.declared.saying.Saying.{Saying}
-use Rattle.flick_top.specs.declared.saying.Saying.TheVariants.{NoFile, TooLarge, Bind}
+use Rattle.flick_top.specs.declared.report.Report.{Report}
+use Rattle.flick_top.specs.declared.report.Report.TheVariants.{NoFile, TooLarge, Bind}
 use Rattle.flick_top.specs.Fronts.{Read, UnitOf}
-
--- the octets of the longest file of replies
-abbrev pub longest_replies : ℕ
-longest_replies = 8388608
 
 -- what the content of a file says, where there is the file
 abbrev pub FileSays : Front → Option (List ℕ) → Read → Type 0
@@ -28,23 +24,23 @@ FileSays front None read = read ≡ Err NoFile
 FileSays front (Some text) read = MatchBool (nat_le (length text) longest_file) (UnitOf front text read) (read ≡ Err TooLarge)
 
 -- what was read, as a plain tree
-abbrev pub plainly : Result Parts Saying → Read
+abbrev pub plainly : Result Parts Report → Read
 plainly (Ok u) = Ok (plain u)
-plainly (Err saying) = Err saying
+plainly (Err report) = Err report
 
 -- a unit that was read is sound
-abbrev pub IsSoundly : Result Parts Saying → Type 0
+abbrev pub IsSoundly : Result Parts Report → Type 0
 IsSoundly (Ok u) = IsSoundPlain (plain u)
-IsSoundly (Err saying) = Unit {0}
+IsSoundly (Err report) = Unit {0}
 
 -- an engine, or what is said instead
 abbrev pub Reported : Type 0
-Reported = Result Coded Saying
+Reported = Result Coded Report
 
 -- the codes of an engine, or none
 abbrev pub codes_in : Reported → List Stub
 codes_in (Ok e) = e.stubs
-codes_in (Err saying) = []
+codes_in (Err report) = []
 
 -- a unit over a back end: a binding whose nodes are those that the unit makes
 pub record IsOver (u : PlainUnit) (k : Back) (b : Binding) : Type 0 where
@@ -64,5 +60,5 @@ BindSays codes u w None reported = IsOkAnd reported (λ e. IsOf u w e × (e.stub
 
 -- what was read, with messages of a format
 abbrev pub BoundSays : List Stub → Wire → Read → Reported → Type 0
-BoundSays codes w (Err saying) reported = reported ≡ Err saying
+BoundSays codes w (Err report) reported = reported ≡ Err report
 BoundSays codes w (Ok u) reported = BindSays codes u w (bind_fault u (back_in w)) reported

@@ -14,8 +14,8 @@ use Rattle.aoi.specs.Plain.{PlainUnit}
 use Rattle.front_onc.specs.Resolved.{resolved as onc_resolved}
 use Rattle.front_corba.specs.Resolved.{resolved as corba_resolved}
 use Rattle.front_mig.specs.Resolved.{resolved as mig_resolved}
-use Rattle.flick_top.specs.declared.saying.Saying.{Saying}
-use Rattle.flick_top.specs.declared.saying.Saying.TheVariants.{Lex, Syntax, Name}
+use Rattle.flick_top.specs.declared.report.Report.{Report}
+use Rattle.flick_top.specs.declared.report.Report.TheVariants.{Lex, Syntax, Name}
 
 -- the front end of a name
 abbrev pub front_of : List ℕ → Option Front
@@ -27,7 +27,7 @@ front_of word =
 
 -- a unit, or what is said instead
 abbrev pub Read : Type 0
-Read = Result PlainUnit Saying
+Read = Result PlainUnit Report
 
 -- a unit, or the first fault of its names
 abbrev pub in_words : Result PlainUnit NameErr → Read

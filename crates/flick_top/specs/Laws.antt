@@ -16,7 +16,7 @@ use Rattle.flick_top.specs.Answer.{Answering}
 use Rattle.flick_top.specs.Command.{command_of}
 use Rattle.flick_top.specs.Made.{codes_of, LeavesEngine}
 use Rattle.flick_top.specs.Outside.{Input, Held, TakesPrefix, Fails}
-use Rattle.flick_top.specs.Coming.{Files, IsTask, AreAnswered, Does}
+use Rattle.flick_top.specs.Dispatch.{Files, IsTask, AreAnswered, Does}
 use Rattle.flick_top.specs.Items.{IsCutting, by_frames, by_lines}
 use Rattle.flick_top.specs.Task.{Task, out_of}
 use Rattle.flick_top.specs.Statement.{Works, Completes}

@@ -1,5 +1,5 @@
 pub mod Answer
-pub mod Coming
+pub mod Dispatch
 pub mod Command
 pub mod File
 pub mod Fronts
@@ -9,7 +9,7 @@ pub mod Laws
 pub mod Made
 pub mod Numbers
 pub mod Outside
-pub mod Saying
+pub mod Report
 pub mod Statement
 pub mod Status
 pub mod Task

@@ -10,7 +10,7 @@ use Rattle.flick_top.specs.declared.command.Command.{Command}
 use Rattle.flick_top.specs.declared.command.Command.TheVariants.{Over, Bridge}
 use Rattle.flick_top.specs.declared.command.Named.{Named}
 use Rattle.flick_top.specs.declared.prepared.Prepared.{Prepared}
-use Rattle.flick_top.specs.Coming.{Files}
+use Rattle.flick_top.specs.Dispatch.{Files}
 use Rattle.flick_top.specs.Command.{word_at}
 use Rattle.flick_top.specs.File.{Reported, FileSays, IsOf, codes_in}
 use Rattle.flick_top.specs.Task.{engine_of}

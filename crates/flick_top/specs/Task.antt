@@ -4,14 +4,14 @@ use Rattle.stub_codes.specs.Stubs.{Coded}
 use Rattle.flick_lines.specs.Sent.{Sending}
 use Rattle.flick_top.specs.declared.job.Job.{Job}
 use Rattle.flick_top.specs.declared.job.Job.TheVariants as jobs
-use Rattle.flick_top.specs.declared.saying.Saying.{Saying}
+use Rattle.flick_top.specs.declared.report.Report.{Report}
 use Rattle.flick_top.specs.declared.status.Status.{Status}
 use Rattle.flick_top.specs.declared.status.Status.TheVariants.{Done, Usage}
 use Rattle.flick_top.specs.declared.prepared.Prepared.{Prepared}
 pub use Rattle.flick_top.specs.Answer.{engine_in}
 use Rattle.flick_top.specs.Answer.{Answering, answers, refuses, sent_for, cutting_of, is_exact}
 use Rattle.flick_top.specs.declared.items.Item.{Item}
-use Rattle.flick_top.specs.Saying.{said, ending}
+use Rattle.flick_top.specs.Report.{report_text, report_status}
 use Rattle.flick_top.specs.Status.{number_of, refused}
 
 -- what is left to do
@@ -30,8 +30,8 @@ pub record Task : Type 0 where
 -- ---- tasks
 
 -- to say this, and no more, over an engine where there is one
-abbrev pub saying_task : Saying → Option Coded → Task
-saying_task saying engine = record { text = said saying; status = ending saying; before = []; feed = None; engine = engine }
+abbrev pub report_task : Report → Option Coded → Task
+report_task report engine = record { text = report_text report; status = report_status report; before = []; feed = None; engine = engine }
 
 -- to write this text, for which this was sent, and no more
 abbrev pub writing_task : List ℕ → List Sending → Option Coded → Task
@@ -42,8 +42,8 @@ abbrev pub answering_task : List ℕ → Job → Task
 answering_task text job = record { text = text; status = Done; before = []; feed = Some job; engine = Some (engine_in job) }
 
 -- what words come to that name no command
-abbrev pub shapeless_task : Task
-shapeless_task = record { text = []; status = Usage; before = []; feed = None; engine = None }
+abbrev pub usage_task : Task
+usage_task = record { text = []; status = Usage; before = []; feed = None; engine = None }
 
 -- that of the job, or else the one that answers no items
 abbrev pub engine_with : Option Job → Option Coded → Option Coded

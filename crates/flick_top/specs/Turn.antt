@@ -11,7 +11,7 @@ use Rattle.flick_top.specs.declared.job.Job.{Job}
 use Rattle.flick_top.specs.declared.prepared.Prepared.{Prepared}
 use Rattle.flick_top.specs.declared.status.Status.{Status}
 use Rattle.flick_top.specs.declared.status.Status.TheVariants.{Done, File, Source, Memory, Length}
-use Rattle.flick_top.specs.Coming.{Files, Acts, Comes}
+use Rattle.flick_top.specs.Dispatch.{Files, Acts, TaskOf}
 use Rattle.flick_top.specs.Made.{codes_of}
 use Rattle.flick_top.specs.Task.{Task, engine_of, task_in}
 
@@ -39,7 +39,7 @@ ActsIn action e words files p old new = IsIn (Acts action e words files) p old n
 
 -- what a command comes to, by the codes of its own engine
 abbrev pub ComesIn : Option Command → List (List ℕ) → Files → Prepared → Buf → Buf → Type 0
-ComesIn command words files p old new = IsIn (Comes (codes_of (engine_of p)) command words files) p old new
+ComesIn command words files p old new = IsIn (TaskOf (codes_of (engine_of p)) command words files) p old new
 
 -- how the work ends where the input cannot be read on
 abbrev pub status_at : LineErr → Status

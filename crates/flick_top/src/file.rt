@@ -5,12 +5,12 @@ ghost use Rattle.kit_base.specs.Causes.{Rose};
 ghost use Rattle.aoi.specs.Plain.{plain, IsSoundPlain};
 ghost use Rattle.flick_engine.specs.Backs.{back_in};
 ghost use Rattle.pres.specs.Faults.{bind_fault};
-ghost use Rattle.flick_top.specs.Coming.{Files, IsBridgeOf, IsMadeIn, IsMadeOf, bridge_of};
+ghost use Rattle.flick_top.specs.Dispatch.{Files, IsBridgeOf, IsMadeIn, IsMadeOf, bridge_of};
 ghost use Rattle.flick_top.specs.File.{FileSays, BindSays, BoundSays, IsSoundly, codes_in, plainly};
 
 use crate::command::Named;
 use crate::fronts::unit_of;
-use crate::saying::Saying;
+use crate::report::Report;
 use aoi::Unit;
 use flick_bridge::Bridge;
 use flick_engine::{Engine, Wire};
@@ -24,7 +24,7 @@ use std::alloc::Global;
 #[derive(Drop)]
 pub struct NoBridge {
     /// What is said.
-    pub saying: Saying,
+    pub report: Report,
     /// The engine of the messages that are read.
     pub engine: Option<Engine>,
 }
@@ -55,7 +55,7 @@ pub fn engine_at<F: Shelf>(
     named: &Named,
     path: &[u8],
     shelf: &mut F,
-) -> Result<Result<Engine, Saying>, TaskErr>
+) -> Result<Result<Engine, Report>, TaskErr>
     ensures reported { IfOk result (λ reported. (files : Files) → F.files shelf.old ≡ Some files
         → IsMadeOf (codes_in reported) named.now (files path.now) reported) }
     ensures files { F.files shelf.new ≡ F.files shelf.old }
@@ -86,7 +86,7 @@ pub fn bridge_at<F: Shelf>(
     match shelf.read_file(alloc, path, LONGEST_FILE + 1) {
         Ok(text) => Ok(bridge_of(alloc, named, to, text.as_slice())?),
         Err(ShelfErr::Absent) => Ok(Err(NoBridge {
-            saying: Saying::NoFile,
+            report: Report::NoFile,
             engine: None,
         })),
         Err(ShelfErr::Failed) => Err(TaskErr::Shelf),
@@ -109,8 +109,8 @@ fn bridge_of(
             let second = engine_of(alloc, named.front, to, content)?;
             Ok(bridged(from, second))
         }
-        Err(saying) => Ok(Err(NoBridge {
-            saying,
+        Err(report) => Ok(Err(NoBridge {
+            report,
             engine: None,
         })),
     }
@@ -122,7 +122,7 @@ fn engine_of(
     front: Front,
     wire: Wire,
     content: &[u8],
-) -> Result<Result<Engine, Saying>, NoMemory>
+) -> Result<Result<Engine, Report>, NoMemory>
     ensures { IfOk result (λ reported.
         IsMadeIn (codes_in reported) front wire (Some content.now) reported) }
 {
@@ -131,14 +131,14 @@ fn engine_of(
 }
 
 /// The bridge from an engine to a second one, or why there is none.
-fn bridged(from: Engine, second: Result<Engine, Saying>) -> Result<Bridge, NoBridge>
+fn bridged(from: Engine, second: Result<Engine, Report>) -> Result<Bridge, NoBridge>
     requires { IfOk second (λ to. from.binding.unit ≡ to.binding.unit) }
     ensures { result ≡ bridge_of from second }
 {
     match second {
         Ok(to) => Ok(Bridge::new(from, to)),
-        Err(saying) => Err(NoBridge {
-            saying,
+        Err(report) => Err(NoBridge {
+            report,
             engine: Some(from),
         }),
     }
@@ -151,7 +151,7 @@ pub fn unit_at<F: Shelf>(
     front: Front,
     path: &[u8],
     shelf: &mut F,
-) -> Result<Result<Unit, Saying>, TaskErr>
+) -> Result<Result<Unit, Report>, TaskErr>
     // What was read.
     ensures reported { IfOk result (λ read. (files : Files) → F.files shelf.old ≡ Some files
         → FileSays front (files path.now) (plainly read)) }
@@ -167,7 +167,7 @@ pub fn unit_at<F: Shelf>(
             Ok(read) => Ok(read),
             Err(NoMemory) => Err(TaskErr::NoMemory),
         },
-        Err(ShelfErr::Absent) => Ok(Err(Saying::NoFile)),
+        Err(ShelfErr::Absent) => Ok(Err(Report::NoFile)),
         Err(ShelfErr::Failed) => Err(TaskErr::Shelf),
         Err(ShelfErr::NoMemory) => Err(TaskErr::NoMemory),
     }
@@ -178,12 +178,12 @@ fn read_content(
     alloc: Global,
     front: Front,
     content: &[u8],
-) -> Result<Result<Unit, Saying>, NoMemory>
+) -> Result<Result<Unit, Report>, NoMemory>
     ensures says { IfOk result (λ read. FileSays front (Some content.now) (plainly read)) }
     ensures sound { IfOk result IsSoundly }
 {
     if content.len() > LONGEST_FILE as usize {
-        return Ok(Err(Saying::TooLarge));
+        return Ok(Err(Report::TooLarge));
     }
     unit_of(alloc, front, content)
 }
@@ -192,19 +192,19 @@ fn read_content(
 fn made_of(
     alloc: Global,
     wire: Wire,
-    read: Result<Unit, Saying>,
-) -> Result<Result<Engine, Saying>, NoMemory>
+    read: Result<Unit, Report>,
+) -> Result<Result<Engine, Report>, NoMemory>
     requires sound { IsSoundly read }
     ensures { IfOk result (λ reported. BoundSays (codes_in reported) wire (plainly read) reported) }
 {
     match read {
         Ok(unit) => bound_to(alloc, wire, unit),
-        Err(saying) => Ok(Err(saying)),
+        Err(report) => Ok(Err(report)),
     }
 }
 
 /// The engine of a unit with messages of a format, or the first reason against it.
-fn bound_to(alloc: Global, wire: Wire, unit: Unit) -> Result<Result<Engine, Saying>, NoMemory>
+fn bound_to(alloc: Global, wire: Wire, unit: Unit) -> Result<Result<Engine, Report>, NoMemory>
     requires sound { IsSoundPlain (plain unit) }
     ensures { IfOk result (λ reported.
         BindSays (codes_in reported) (plain unit) wire (bind_fault (plain unit) (back_in wire)) reported) }
@@ -212,6 +212,6 @@ fn bound_to(alloc: Global, wire: Wire, unit: Unit) -> Result<Result<Engine, Sayi
     match bind(alloc, unit, wire.back()) {
         Ok(bound) => Ok(Ok(Engine::compile_minor(alloc, bound, wire.minor())?)),
         Err(BindErr::NoMemory) => Err(NoMemory),
-        Err(reason) => Ok(Err(Saying::Bind(reason))),
+        Err(reason) => Ok(Err(Report::Bind(reason))),
     }
 }

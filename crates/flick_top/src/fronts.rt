@@ -2,15 +2,15 @@
 
 ghost use Rattle.std.specs.Prelude.{◌≡◌, ◌≤◌, Err, IfOk, length};
 ghost use Rattle.kit_base.specs.Limits.{longest_file};
-ghost use Rattle.aoi.specs.declared.faults.NameFault.TheVariants.{NoMemory as WantOfMemory};
+ghost use Rattle.aoi.specs.declared.faults.NameFault.TheVariants.{NoMemory as OutOfMemory};
 ghost use Rattle.front_onc.specs.Resolved.{IsWhole as OncIsWhole, resolved as onc_resolved};
 ghost use Rattle.front_corba.specs.Resolved.{IsWhole as CorbaIsWhole, resolved as corba_resolved};
 ghost use Rattle.front_mig.specs.Resolved.{resolved as mig_resolved};
-ghost use Rattle.flick_top.specs.declared.saying.Saying.TheVariants as sayings;
+ghost use Rattle.flick_top.specs.declared.report.Report.TheVariants as reports;
 ghost use Rattle.flick_top.specs.File.{IsSoundly, plainly};
 ghost use Rattle.flick_top.specs.Fronts.{front_of, in_words, CorbaTokensSay, MigTokensSay, OncTokensSay, TokensSay, UnitOf};
 
-use crate::saying::Saying;
+use crate::report::Report;
 use aoi::{NameErr, NameFault, Unit};
 use idl_lex::{Front, LexErr, Tokens, lex};
 use kit_base::NoMemory;
@@ -34,7 +34,7 @@ pub fn front_of(word: &[u8]) -> Option<Front>
 }
 
 /// The unit of a text, or what is said instead.
-pub fn unit_of(alloc: Global, front: Front, text: &[u8]) -> Result<Result<Unit, Saying>, NoMemory>
+pub fn unit_of(alloc: Global, front: Front, text: &[u8]) -> Result<Result<Unit, Report>, NoMemory>
     requires short { length text.now ≤ longest_file }
     ensures says { IfOk result (λ read. UnitOf front text.now (plainly read)) }
     ensures sound { IfOk result IsSoundly }
@@ -42,12 +42,12 @@ pub fn unit_of(alloc: Global, front: Front, text: &[u8]) -> Result<Result<Unit, 
     match lex(alloc, front, text) {
         Ok(tokens) => of_tokens(alloc, front, &tokens),
         Err(LexErr::NoMemory) => Err(NoMemory),
-        Err(fault) => Ok(Err(Saying::Lex(fault))),
+        Err(fault) => Ok(Err(Report::Lex(fault))),
     }
 }
 
 /// The unit of a file's tokens, or what is said instead.
-fn of_tokens(alloc: Global, front: Front, tokens: &Tokens) -> Result<Result<Unit, Saying>, NoMemory>
+fn of_tokens(alloc: Global, front: Front, tokens: &Tokens) -> Result<Result<Unit, Report>, NoMemory>
     ensures says { IfOk result (λ read. TokensSay front tokens.now (plainly read)) }
     ensures sound { IfOk result IsSoundly }
 {
@@ -59,19 +59,19 @@ fn of_tokens(alloc: Global, front: Front, tokens: &Tokens) -> Result<Result<Unit
 }
 
 /// What is said of a name that is not resolved.
-fn named(error: NameErr) -> Result<Result<Unit, Saying>, NoMemory>
-    ensures { IfOk result (λ read. (error.fault ≡ WantOfMemory → ⊥) × (read ≡ Err (sayings.Name error))) }
+fn named(error: NameErr) -> Result<Result<Unit, Report>, NoMemory>
+    ensures { IfOk result (λ read. (error.fault ≡ OutOfMemory → ⊥) × (read ≡ Err (reports.Name error))) }
 {
     match error.fault {
         NameFault::NoMemory => Err(NoMemory),
-        _ => Ok(Err(Saying::Name(error))),
+        _ => Ok(Err(Report::Name(error))),
     }
 }
 
 // ---- files in the ONC RPC language
 
 /// The unit of the tokens of an ONC file, or what is said instead.
-fn onc_tokens(alloc: Global, tokens: &Tokens) -> Result<Result<Unit, Saying>, NoMemory>
+fn onc_tokens(alloc: Global, tokens: &Tokens) -> Result<Result<Unit, Report>, NoMemory>
     ensures says { IfOk result (λ read. OncTokensSay tokens.now (plainly read)) }
     ensures sound { IfOk result IsSoundly }
 {
@@ -79,12 +79,12 @@ fn onc_tokens(alloc: Global, tokens: &Tokens) -> Result<Result<Unit, Saying>, No
     match onc_syntax::parse(alloc, tokens) {
         Ok(tree) => onc_tree(alloc, &tree),
         Err(SyntaxErr::NoMemory) => Err(NoMemory),
-        Err(SyntaxErr::Syntax(line)) => Ok(Err(Saying::Syntax(line))),
+        Err(SyntaxErr::Syntax(line)) => Ok(Err(Report::Syntax(line))),
     }
 }
 
 /// The unit of the tree of an ONC file, or what is said instead.
-fn onc_tree(alloc: Global, tree: &onc_syntax::Tree) -> Result<Result<Unit, Saying>, NoMemory>
+fn onc_tree(alloc: Global, tree: &onc_syntax::Tree) -> Result<Result<Unit, Report>, NoMemory>
     requires { OncIsWhole tree.now }
     ensures says { IfOk result (λ read. plainly read ≡ in_words (onc_resolved tree.now)) }
     ensures sound { IfOk result IsSoundly }
@@ -98,7 +98,7 @@ fn onc_tree(alloc: Global, tree: &onc_syntax::Tree) -> Result<Result<Unit, Sayin
 // ---- CORBA IDL files
 
 /// The unit of the tokens of a CORBA file, or what is said instead.
-fn corba_tokens(alloc: Global, tokens: &Tokens) -> Result<Result<Unit, Saying>, NoMemory>
+fn corba_tokens(alloc: Global, tokens: &Tokens) -> Result<Result<Unit, Report>, NoMemory>
     ensures says { IfOk result (λ read. CorbaTokensSay tokens.now (plainly read)) }
     ensures sound { IfOk result IsSoundly }
 {
@@ -106,12 +106,12 @@ fn corba_tokens(alloc: Global, tokens: &Tokens) -> Result<Result<Unit, Saying>, 
     match corba_syntax::parse(alloc, tokens) {
         Ok(tree) => corba_tree(alloc, &tree),
         Err(SyntaxErr::NoMemory) => Err(NoMemory),
-        Err(SyntaxErr::Syntax(line)) => Ok(Err(Saying::Syntax(line))),
+        Err(SyntaxErr::Syntax(line)) => Ok(Err(Report::Syntax(line))),
     }
 }
 
 /// The unit of the tree of a CORBA file, or what is said instead.
-fn corba_tree(alloc: Global, tree: &corba_syntax::Tree) -> Result<Result<Unit, Saying>, NoMemory>
+fn corba_tree(alloc: Global, tree: &corba_syntax::Tree) -> Result<Result<Unit, Report>, NoMemory>
     requires { CorbaIsWhole tree.now }
     ensures says { IfOk result (λ read. plainly read ≡ in_words (corba_resolved tree.now)) }
     ensures sound { IfOk result IsSoundly }
@@ -125,19 +125,19 @@ fn corba_tree(alloc: Global, tree: &corba_syntax::Tree) -> Result<Result<Unit, S
 // ---- MIG files
 
 /// The unit of the tokens of a MIG file, or what is said instead.
-fn mig_tokens(alloc: Global, tokens: &Tokens) -> Result<Result<Unit, Saying>, NoMemory>
+fn mig_tokens(alloc: Global, tokens: &Tokens) -> Result<Result<Unit, Report>, NoMemory>
     ensures says { IfOk result (λ read. MigTokensSay tokens.now (plainly read)) }
     ensures sound { IfOk result IsSoundly }
 {
     match mig_syntax::parse(alloc, tokens) {
         Ok(tree) => mig_tree(alloc, &tree),
         Err(SyntaxErr::NoMemory) => Err(NoMemory),
-        Err(SyntaxErr::Syntax(line)) => Ok(Err(Saying::Syntax(line))),
+        Err(SyntaxErr::Syntax(line)) => Ok(Err(Report::Syntax(line))),
     }
 }
 
 /// The unit of the tree of a MIG file, or what is said instead.
-fn mig_tree(alloc: Global, tree: &mig_syntax::Tree) -> Result<Result<Unit, Saying>, NoMemory>
+fn mig_tree(alloc: Global, tree: &mig_syntax::Tree) -> Result<Result<Unit, Report>, NoMemory>
     ensures says { IfOk result (λ read. plainly read ≡ in_words (mig_resolved tree.now)) }
     ensures sound { IfOk result IsSoundly }
 {

@@ -123,15 +123,15 @@ impl Job {
     }
 
     /// Each code of the engine is that of its operation. It does nothing.
-    pub fn codes_are_the_operations(&self)
+    pub fn codes_match_operations(&self)
         ensures { IsCoded (engine_in self.now) }
     {
         match self {
             Job::Over(_, engine) | Job::Pipe(engine) | Job::Unpipe(engine) => {
-                engine.codes_are_the_operations()
+                engine.codes_match_operations()
             }
-            Job::Serve(server) => server.engine().codes_are_the_operations(),
-            Job::Bridge(bridge) => bridge.engine().codes_are_the_operations(),
+            Job::Serve(server) => server.engine().codes_match_operations(),
+            Job::Bridge(bridge) => bridge.engine().codes_match_operations(),
         }
     }
 

@@ -3,9 +3,9 @@
 
 mod answer;
 mod answered;
-mod coming;
 mod command;
 mod cutter;
+mod dispatch;
 mod file;
 mod fronts;
 mod items;
@@ -14,7 +14,7 @@ mod laws;
 mod numbers;
 mod piped;
 mod prepared;
-mod saying;
+mod report;
 mod status;
 mod top;
 mod turns;

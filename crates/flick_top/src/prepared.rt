@@ -4,12 +4,12 @@ ghost use Rattle.std.specs.Prelude.{◌≡◌, [], List, Option, Some, None, IfO
 ghost use Rattle.flick_lines.specs.Sent.{Sending};
 ghost use Rattle.stub_codes.specs.Stubs.{IsCoded};
 ghost use Rattle.flick_top.specs.Answer.{Answering};
-ghost use Rattle.flick_top.specs.Coming.{AreAnswered};
-ghost use Rattle.flick_top.specs.Task.{answering_task, engine_of, saying_task, task_in, writing_task};
+ghost use Rattle.flick_top.specs.Dispatch.{AreAnswered};
+ghost use Rattle.flick_top.specs.Task.{answering_task, engine_of, report_task, task_in, writing_task};
 ghost use Rattle.flick_top.specs.Turn.{IsReady};
 
 use crate::job::Job;
-use crate::saying::Saying;
+use crate::report::Report;
 use crate::status::Status;
 use flick_engine::Engine;
 use kit_base::{NoMemory, Octets};
@@ -30,17 +30,17 @@ pub struct Prepared {
 
 impl Prepared {
     /// To say this, and no more, over an engine where there is one.
-    pub fn of_saying(
+    pub fn of_report(
         alloc: Global,
-        saying: Saying,
+        report: Report,
         engine: Option<Engine>,
     ) -> Result<Prepared, NoMemory>
-        ensures value { IfOk result (λ p. task_in p [] ≡ saying_task saying engine) }
+        ensures value { IfOk result (λ p. task_in p [] ≡ report_task report engine) }
         ensures ready { IfOk result IsReady }
     {
         Ok(Prepared {
-            text: saying.octets(alloc)?,
-            status: saying.status(),
+            text: report.octets(alloc)?,
+            status: report.status(),
             feed: None,
             idle: engine,
         })
@@ -84,11 +84,11 @@ impl Prepared {
     }
 
     /// Each code of the engine, where there is one, is that of its operation. It does nothing.
-    pub fn codes_are_the_operations(&self)
+    pub fn codes_match_operations(&self)
         ensures { IfSome (engine_of self.now) IsCoded }
     {
         match &self.feed {
-            Some(job) => job.codes_are_the_operations(),
+            Some(job) => job.codes_match_operations(),
             None => codes_of_idle(&self.idle),
         }
     }
@@ -110,7 +110,7 @@ fn codes_of_idle(idle: &Option<Engine>)
     ensures { IfSome idle.now IsCoded }
 {
     match idle {
-        Some(engine) => engine.codes_are_the_operations(),
+        Some(engine) => engine.codes_match_operations(),
         None => {}
     }
 }

@@ -3,13 +3,13 @@
 ghost use Rattle.std.specs.Prelude.{◌≡◌, ◌≤◌, Some};
 ghost use Rattle.kit_base.specs.Causes.{Rose};
 ghost use Rattle.raw_buf.specs.Buf.{NoneFell};
-ghost use Rattle.flick_top.specs.Coming.{Files};
+ghost use Rattle.flick_top.specs.Dispatch.{Files};
 ghost use Rattle.flick_top.specs.Outside.{TakesPrefix, ComesBy, StandsUnless};
 ghost use Rattle.flick_top.specs.Statement.{Works, LeavesNothing, IsUsage, NeedsFile, NeedsItems, TakesMore, TakesAtMost, TakesNothing, Completes};
 ghost use Rattle.flick_top.specs.Status.{source_failed, sink_failed, shelf_failed, too_much};
 
-use crate::coming::prepare;
 use crate::command::command_of;
+use crate::dispatch::prepare;
 use crate::file::TaskErr;
 use crate::status::Status;
 use crate::turns::perform;
@@ -68,7 +68,7 @@ pub fn flick<F: Shelf, S: Source, K: Sink>(
     match prepare(alloc, words, command, shelf, buf) {
         Ok(prepared) => {
             prepared.items_are_answered();
-            prepared.codes_are_the_operations();
+            prepared.codes_match_operations();
             let status = perform(alloc, &prepared, input, output, buf);
             *made = prepared.into_engine();
             status.number()

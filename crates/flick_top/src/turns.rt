@@ -4,7 +4,7 @@ ghost use Rattle.std.specs.Prelude.{◌≡◌, ◌≢◌, [], ◌||◌, Some, If
 ghost use Rattle.raw_buf.specs.Buf.{NoneFell};
 ghost use Rattle.stub_codes.specs.Stubs.{IsCoded};
 ghost use Rattle.flick_top.specs.Answer.{Answering, IsAnswering};
-ghost use Rattle.flick_top.specs.Coming.{AreAnswered};
+ghost use Rattle.flick_top.specs.Dispatch.{AreAnswered};
 ghost use Rattle.flick_top.specs.Outside.{TakesPrefix, ComesBy, StandsUnless};
 ghost use Rattle.flick_top.specs.Statement as statement;
 ghost use Rattle.flick_top.specs.Statement.{TakesMore, TakesAtMost, TakesNothing};

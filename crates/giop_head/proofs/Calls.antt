@@ -7,7 +7,7 @@ use Rattle.wire_def.specs.Grammar.{Spelling, Parts, IsGrammar, TestedSpells}
 use Rattle.wire_def.proofs.Grammars.{done, mapped, both_are, tested_are}
 use Rattle.head_kit.specs.Words.{only}
 use Rattle.giop_head.specs.declared.header.Heading.{Heading}
-use Rattle.giop_head.specs.declared.header.Way.TheVariants.{Asks, Requests}
+use Rattle.giop_head.specs.declared.header.HeadKind.TheVariants.{Asks, Requests}
 use Rattle.giop_head.specs.Header.{HeaderSpells}
 use Rattle.giop_head.specs.Items.{LongSpells, short_place, SequenceSpells, EndSpells}
 use Rattle.giop_head.specs.Versions.{TargetSpells}

@@ -9,8 +9,8 @@ use Rattle.wire_def.specs.Grammar.{IsGrammar}
 use Rattle.wire_def.proofs.Grammars.{mapped, both_are}
 use Rattle.wire_def.proofs.HeadItems.{body_is}
 use Rattle.giop_head.specs.declared.header.Heading.{Heading}
-use Rattle.giop_head.specs.declared.header.Way.{Way}
-use Rattle.giop_head.specs.declared.header.Way.TheVariants.{Asks, Requests, Replies}
+use Rattle.giop_head.specs.declared.header.HeadKind.{HeadKind}
+use Rattle.giop_head.specs.declared.header.HeadKind.TheVariants.{Asks, Requests, Replies}
 use Rattle.giop_head.specs.Header.{has_minor, IsMinor, has_magic, has_version, has_order, expected, size_in, judged, header_of, HeaderSpells, HeaderStops, given, read_header}
 
 given_is : (d : Result Heading HeadErr) → IsGrammar (given d) (λ p o h. (o ≡ []) × (d ≡ Ok h)) (λ p o k at. (d ≡ Err k) × (at ≡ p))
@@ -31,7 +31,7 @@ given_is (Err j) = record {
   faulty = λ p o k at oct e. let same : j ≡ k = cc in (ap (λ (x : HeadErr). Err x) same, cc);
 }
 
-pub header_is : (w : Way) (n : ℕ) → IsGrammar (read_header w n) (HeaderSpells w n) (HeaderStops w n)
+pub header_is : (w : HeadKind) (n : ℕ) → IsGrammar (read_header w n) (HeaderSpells w n) (HeaderStops w n)
 unfolding read_header
 header_is w n = mapped (λ (x : List ℕ × Heading). x.1) (HeaderSpells w n) (both_are (body_is 12) (λ x. given_is (judged w n x)))
     (λ p o x (a, b, is, (same, long), (none, ok)).
@@ -51,7 +51,7 @@ good x = Ok x
 same_heading : (x y : Heading) → good x ≡ good y → x ≡ y
 same_heading x y e = cc
 
-pub is_expected : (w : Way) (n : ℕ) (o : List ℕ) (h : Heading) → judged w n o ≡ Ok h → expected w h.message_type ≡ true
+pub is_expected : (w : HeadKind) (n : ℕ) (o : List ℕ) (h : Heading) → judged w n o ≡ Ok h → expected w h.message_type ≡ true
 unfolding judged
 is_expected w n o h e =
     let magic = passed (has_magic o) _ Magic h e in
@@ -82,7 +82,7 @@ second false b h = absurd cc
 pub has_one : (o : List ℕ) → has_version o ≡ true → IsMinor (slice_index o 5)
 has_one o h = second (slice_index o 4 == 1) (has_minor (slice_index o 5)) h
 
-pub is_minor : (w : Way) (n : ℕ) (o : List ℕ) (h : Heading) → judged w n o ≡ Ok h → IsMinor h.minor
+pub is_minor : (w : HeadKind) (n : ℕ) (o : List ℕ) (h : Heading) → judged w n o ≡ Ok h → IsMinor h.minor
 unfolding judged
 is_minor w n o h e =
     let magic = passed (has_magic o) _ Magic h e in

@@ -8,7 +8,7 @@ use Rattle.wire_def.specs.Grammar.{got, map_got, Spelling, Parts, IsGrammar}
 use Rattle.wire_def.proofs.Grammars.{mapped_stop, done, mapped, both_are}
 use Rattle.head_kit.specs.Readers.{Stopped, reported}
 use Rattle.giop_head.specs.declared.header.Heading.{Heading}
-use Rattle.giop_head.specs.declared.header.Way.TheVariants.{Replies}
+use Rattle.giop_head.specs.declared.header.HeadKind.TheVariants.{Replies}
 use Rattle.giop_head.specs.Items.{LongSpells, read_long, PassSpells, StringSpells}
 use Rattle.giop_head.specs.Versions.{FirstSpell, pass_first, LastSpell}
 use Rattle.giop_head.specs.Header.{HeaderSpells, read_header}

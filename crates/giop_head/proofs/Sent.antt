@@ -11,8 +11,8 @@ use Rattle.wire_def.specs.declared.head.Order.TheVariants.{Big, Little}
 use Rattle.wire_def.specs.declared.outcome.Refusal.TheVariants.{ProgUnavail, ProgMismatch, ProcUnavail, GarbageArgs, SystemErr, RpcMismatch, AuthError, SystemException, UserException, RetCode}
 use Rattle.wire_def.specs.Grammar.{Parts}
 use Rattle.wire_def.proofs.Words.{wide}
-use Rattle.giop_head.specs.declared.header.Way.{Way}
-use Rattle.giop_head.specs.declared.header.Way.TheVariants.{Asks, Requests, Replies}
+use Rattle.giop_head.specs.declared.header.HeadKind.{HeadKind}
+use Rattle.giop_head.specs.declared.header.HeadKind.TheVariants.{Asks, Requests, Replies}
 use Rattle.giop_head.specs.Header.{IsMinor, has_version, expected, judged, HeaderSpells}
 use Rattle.giop_head.specs.Call.{Request, RequestSpells, request}
 use Rattle.giop_head.specs.Reply.{Fate, answer, user, system, status_of}
@@ -39,7 +39,7 @@ version_right : (m : ℕ) (r : Order) (type k : ℕ) → IsMinor m → has_versi
 version_right m r type k h = h
 
 -- a header of a type that is expected is right
-is_right : (w : Way) (m : ℕ) (r : Order) (type n : ℕ) → IsMinor m → expected w type ≡ true → n - 12 < 2 ^ 32
+is_right : (w : HeadKind) (m : ℕ) (r : Order) (type n : ℕ) → IsMinor m → expected w type ≡ true → n - 12 < 2 ^ 32
     → judged w n (sized m r type (n - 12)) ≡ Ok (record { order = r; message_type = type; minor = m })
 unfolding judged
 is_right w m Big type n minor e fits =
@@ -50,7 +50,7 @@ is_right w m Little type n minor e fits =
     refl
 
 -- fields after a header, and what follows them
-module _ (w : Way) (m : ℕ) (r : Order) (type : ℕ) (fields body : List ℕ) (P : ℕ → List ℕ → Type 0) (spelled : P 12 fields)
+module _ (w : HeadKind) (m : ℕ) (r : Order) (type : ℕ) (fields body : List ℕ) (P : ℕ → List ℕ → Type 0) (spelled : P 12 fields)
     (minor : IsMinor m) (is : expected w type ≡ true) where
   abbrev head : List ℕ
   head = header_octets m r type ++ fields
@@ -156,7 +156,7 @@ module _ (m : ℕ) (has : Bool) (r : Order) (q : Request) (body : List ℕ) (min
       (t.0, put_octets m has r q ∙ t.1, t.2)
 
   -- what its fields are in a message of this length
-  spelled_in : (w : Way) → expected w 0 ≡ true → MayFollow has body → total - 12 < 2 ^ 32
+  spelled_in : (w : HeadKind) → expected w 0 ≡ true → MayFollow has body → total - 12 < 2 ^ 32
       → (length lead ≤ length (with_size r (lead ++ body)))
       × Parts 0 (take (length lead) (with_size r (lead ++ body)))
       (λ a. HeaderSpells w (length (with_size r (lead ++ body))) 0 a (record { order = r; message_type = 0; minor = m }))

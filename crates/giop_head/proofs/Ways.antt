@@ -1,7 +1,7 @@
 -- What is read in two ways: the minor number of what is read, and requests among all that asks.
 use Rattle.std.proofs.Common.{ℕ, List, length, refl, subst}
 use Rattle.wire_def.specs.declared.head.Head.{Head}
-use Rattle.giop_head.specs.declared.header.Way.TheVariants.{Requests}
+use Rattle.giop_head.specs.declared.header.HeadKind.TheVariants.{Requests}
 use Rattle.giop_head.specs.Header.{IsMinor}
 use Rattle.giop_head.specs.Call.{request, search_for, addressing}
 use Rattle.giop_head.specs.Reported.{requested, ReportedRequest, request_reported, BeginsCall, BeginsRequest}

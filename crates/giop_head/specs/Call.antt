@@ -8,7 +8,7 @@ use Rattle.head_kit.specs.Words.{only}
 use Rattle.giop_head.specs.Items.{LongSpells, LongStops, read_long, short_place, SequenceSpells, SequenceStops, read_sequence, StringSpells, StringStops, read_string, EndSpells, EndStops, read_end}
 use Rattle.giop_head.specs.Versions.{FirstSpell, FirstStop, pass_first, CloseSpells, CloseStops, pass_close, WantsSpells, WantsStops, read_wants, TargetSpells, TargetStops, read_target}
 use Rattle.giop_head.specs.Header.{HeaderSpells, HeaderStops, read_header}
-use Rattle.giop_head.specs.declared.header.Way.TheVariants.{Asks, Requests}
+use Rattle.giop_head.specs.declared.header.HeadKind.TheVariants.{Asks, Requests}
 
 -- ---- the parts of a request
 

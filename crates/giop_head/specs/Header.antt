@@ -10,8 +10,8 @@ use Rattle.wire_def.specs.Grammar.{got, stop, Reader, Spelling, Stopping, map_go
 use Rattle.wire_def.specs.HeadItems.{BodySpells, BodyStops, read_body}
 use Rattle.wire_def.specs.Scalars.{octets_number}
 use Rattle.giop_head.specs.declared.header.Heading.{Heading}
-use Rattle.giop_head.specs.declared.header.Way.{Way}
-use Rattle.giop_head.specs.declared.header.Way.TheVariants.{Asks, Requests, Replies}
+use Rattle.giop_head.specs.declared.header.HeadKind.{HeadKind}
+use Rattle.giop_head.specs.declared.header.HeadKind.TheVariants.{Asks, Requests, Replies}
 use Rattle.giop_head.specs.Items.{laid}
 
 -- the letters GIOP
@@ -40,7 +40,7 @@ order_of zero = Big
 order_of (suc n) = Little
 
 -- the types of messages: 0 is a Request, 3 a LocateRequest, 1 a Reply
-abbrev pub expected : Way → ℕ → Bool
+abbrev pub expected : HeadKind → ℕ → Bool
 expected Asks n = n == 0 || n == 3
 expected Requests n = n == 0
 expected Replies n = n == 1
@@ -54,7 +54,7 @@ abbrev pub header_of : List ℕ → Heading
 header_of o = record { order = order_of (slice_index o 6); message_type = slice_index o 7; minor = slice_index o 5 }
 
 -- what the header of a message of so many octets says, or the first of its fields that is wrong
-unfoldable pub judged : Way → ℕ → List ℕ → Result Heading HeadErr
+unfoldable pub judged : HeadKind → ℕ → List ℕ → Result Heading HeadErr
 judged w n o =
     if has_magic o then
     (if has_version o then
@@ -68,11 +68,11 @@ judged w n o =
     else Err Magic
 
 -- 12 octets whose fields are right
-abbrev pub HeaderSpells : Way → ℕ → Spelling Heading
+abbrev pub HeaderSpells : HeadKind → ℕ → Spelling Heading
 HeaderSpells w n p o h = (length o ≡ 12) × (judged w n o ≡ Ok h)
 
 -- fewer than 12 octets, or a field that is wrong
-abbrev pub HeaderStops : Way → ℕ → Stopping HeadErr
+abbrev pub HeaderStops : HeadKind → ℕ → Stopping HeadErr
 HeaderStops w n = StopsInOrder (BodySpells 12) (BodyStops 12) (λ o p rest k at. (judged w n o ≡ Err k) × (at ≡ p))
 
 -- what was decided already
@@ -81,5 +81,5 @@ given (Ok h) p o = got h p o
 given (Err k) p o = stop k p
 
 -- the header of a message of so many octets, read from a position
-unfoldable pub read_header : Way → ℕ → Reader HeadErr Heading
+unfoldable pub read_header : HeadKind → ℕ → Reader HeadErr Heading
 read_header w n p o = map_got (λ x. x.1) (both (read_body 12) (λ x. given (judged w n x)) p o)

@@ -11,16 +11,16 @@ use Rattle.giop_head.specs.Call.{Request}
 use Rattle.giop_head.specs.Reply.{Fate, answer, user, system}
 use Rattle.giop_head.specs.Printed.{request_octets, answer_octets, user_octets, system_octets, with_size, refusal_octets, IsOwn}
 use Rattle.giop_head.specs.Reported.{shared_head, requested, BeginsCall, BeginsReply}
-use Rattle.giop_head.specs.declared.header.Way.{Way}
+use Rattle.giop_head.specs.declared.header.HeadKind.{HeadKind}
 use Rattle.giop_head.specs.Heads.{format}
 
 -- each message begins with a head or stops with a fault, one of the two, and which head and which fault is determined
 abbrev pub HeadsAreDecided : Type 0
-HeadsAreDecided = (w : Way) (message : List ℕ) → AreOctets message → IsDecided (format w (length message)) message
+HeadsAreDecided = (w : HeadKind) (message : List ℕ) → AreOctets message → IsDecided (format w (length message)) message
 
 -- what is read of a message of any length is spelled, and where reading stops there is the fault
 abbrev pub HeadsAreRead : Type 0
-HeadsAreRead = (w : Way) (n : ℕ) → IsRead (format w n)
+HeadsAreRead = (w : HeadKind) (n : ℕ) → IsRead (format w n)
 
 -- octets that lead up to a body are not lacking, since the message has them: no head stops there
 abbrev pub PaddingIsThere : Type 0

@@ -6,7 +6,7 @@ use Rattle.wire_def.specs.Grammar.{got, Reader, Spelling, Stopping, map_got, bot
 use Rattle.giop_head.specs.Items.{LongSpells, LongStops, read_long, PassSpells, PassStops, read_pass, StringSpells, StringStops, read_string}
 use Rattle.giop_head.specs.Versions.{FirstSpell, FirstStop, pass_first, LastSpell, LastStop, pass_last}
 use Rattle.giop_head.specs.Header.{HeaderSpells, HeaderStops, read_header}
-use Rattle.giop_head.specs.declared.header.Way.TheVariants.{Replies}
+use Rattle.giop_head.specs.declared.header.HeadKind.TheVariants.{Replies}
 
 -- how a request fared: an answer, a user exception by its repository id, or a system exception
 pub data Fate : Type 0 where

@@ -7,7 +7,7 @@ use Rattle.wire_def.specs.declared.reply.ReplyHead.{ReplyHead}
 use Rattle.wire_def.specs.declared.reply.Status.{Status}
 use Rattle.wire_def.specs.declared.reply.Status.TheVariants.{Answer, User, System}
 use Rattle.head_kit.specs.Heads.{Begins}
-use Rattle.giop_head.specs.declared.header.Way.TheVariants.{Asks, Requests, Replies}
+use Rattle.giop_head.specs.declared.header.HeadKind.TheVariants.{Asks, Requests, Replies}
 use Rattle.giop_head.specs.declared.call.GiopCall.{GiopCall}
 use Rattle.giop_head.specs.declared.call.GiopCall.TheVariants as calls
 use Rattle.giop_head.specs.Header.{IsMinor}

@@ -2,7 +2,7 @@
 
 ghost use Rattle.std.specs.Prelude.{◌≡◌, ◌↔◌, IfOk};
 ghost use Rattle.wire_def.specs.declared.fault.HeadErr.{HeadErr};
-ghost use Rattle.giop_head.specs.declared.header.Way.TheVariants.{Asks, Requests};
+ghost use Rattle.giop_head.specs.declared.header.HeadKind.TheVariants.{Asks, Requests};
 ghost use Rattle.giop_head.specs.Call.{read_head_of_call, read_any, read_head_of_request, read_key, read_named, read_request, read_search, read_start};
 ghost use Rattle.giop_head.specs.Header.{IsMinor};
 ghost use Rattle.giop_head.specs.Items.{read_end};
@@ -10,7 +10,7 @@ ghost use Rattle.giop_head.specs.Heads.{StopsWith};
 ghost use Rattle.giop_head.specs.Reported.{BeginsCall, BeginsRequest, HasMinor, ReportedCall, ReportedRequest, call_seen, call_reported, named_seen, request_seen, request_reported, search_seen};
 ghost use Rattle.head_kit.specs.Readers.{Gives, Passing, Tells, reported, same, seen_by};
 
-use crate::header::{Way, header};
+use crate::header::{HeadKind, header};
 use crate::items::{long, sequence, string};
 use crate::laws::heads_are_read;
 use crate::shared::shared_head;
@@ -108,7 +108,7 @@ fn request_at(total: usize, at: Cursor<'_>) -> Result<GiopRequest<'_>, HeadErr>
     ensures read { seen_by request_seen result
         ≡ reported request_reported (read_head_of_request total at.entry.place at.entry.rest.now) }
 {
-    let (header, at) = header(Way::Requests, total, at)?;
+    let (header, at) = header(HeadKind::Requests, total, at)?;
     let order = header.order;
     let minor = header.minor;
     let ((id, wants), at) = start(minor, order, at)?;
@@ -129,7 +129,7 @@ fn call_at(total: usize, at: Cursor<'_>) -> Result<GiopCall<'_>, HeadErr>
     ensures read { seen_by call_seen result
         ≡ reported call_reported (read_head_of_call total at.entry.place at.entry.rest.now) }
 {
-    let (header, at) = header(Way::Asks, total, at)?;
+    let (header, at) = header(HeadKind::Asks, total, at)?;
     let order = header.order;
     let minor = header.minor;
     if header.message_type == 0 {

@@ -19,7 +19,7 @@ const LOCATE: u8 = 3;
 
 /// Which messages are expected.
 #[derive(Clone, Copy)]
-pub enum Way {
+pub enum HeadKind {
     /// Those that ask: a Request or a LocateRequest.
     Asks,
     /// A Request.
@@ -63,13 +63,13 @@ fn has_version(octets: &[u8]) -> bool
 }
 
 /// Whether a message type is one that is read in this way.
-fn is_expected(way: Way, message_type: u8) -> bool
+fn is_expected(way: HeadKind, message_type: u8) -> bool
     ensures { result ≡ heads.expected way message_type }
 {
     match way {
-        Way::Asks => message_type == REQUEST || message_type == LOCATE,
-        Way::Requests => message_type == REQUEST,
-        Way::Replies => message_type == REPLY,
+        HeadKind::Asks => message_type == REQUEST || message_type == LOCATE,
+        HeadKind::Requests => message_type == REQUEST,
+        HeadKind::Replies => message_type == REPLY,
     }
 }
 
@@ -98,7 +98,7 @@ fn size_in(octets: &[u8]) -> u32
 
 /// What the header of a message of so many octets says, or the first field that is wrong.
 #[tactic(auto, unfolding(crate::specs::Header::judged))]
-fn judged(way: Way, total: usize, octets: &[u8]) -> Result<Heading, HeadErr>
+fn judged(way: HeadKind, total: usize, octets: &[u8]) -> Result<Heading, HeadErr>
     requires { length octets.now ≡ 12 }
     ensures minor { IfOk result (λ h. IsMinor h.minor) }
     ensures value { result ≡ judged way total octets.now }
@@ -128,7 +128,7 @@ fn judged(way: Way, total: usize, octets: &[u8]) -> Result<Heading, HeadErr>
 /// The header of a message of so many octets.
 #[tactic(auto, unfolding(crate::specs::Header::read_header))]
 pub(crate) fn header(
-    way: Way,
+    way: HeadKind,
     total: usize,
     at: Cursor<'_>,
 ) -> Result<(Heading, Cursor<'_>), HeadErr>

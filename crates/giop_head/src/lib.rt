@@ -15,7 +15,7 @@ mod shared;
 mod versions;
 
 pub use call::{GiopCall, GiopRequest, read_call, read_request};
-pub use header::{Heading, Way};
+pub use header::{HeadKind, Heading};
 pub use laws::{
     begins_or_stops, heads_are_read, own_refusals_have_octets, padding_is_there, replies_are_read,
     requests_are_read,

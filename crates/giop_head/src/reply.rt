@@ -3,13 +3,13 @@
 ghost use Rattle.std.specs.Prelude.{◌≡◌, ◌↔◌, Some};
 ghost use Rattle.wire_def.specs.Grammar.{map_got};
 ghost use Rattle.wire_def.specs.declared.fault.HeadErr.{HeadErr};
-ghost use Rattle.giop_head.specs.declared.header.Way.TheVariants.{Replies};
+ghost use Rattle.giop_head.specs.declared.header.HeadKind.TheVariants.{Replies};
 ghost use Rattle.giop_head.specs.Reply.{read_detail, read_fate, read_head_of_reply, read_system};
 ghost use Rattle.giop_head.specs.Heads.{StopsWith};
 ghost use Rattle.giop_head.specs.Reported.{BeginsReply, ReportedReply, fate_seen, reply_seen, reply_reported};
 ghost use Rattle.head_kit.specs.Readers.{Gives, Tells, seen_by, reported};
 
-use crate::header::{Way, header};
+use crate::header::{HeadKind, header};
 use crate::items::{long, long_up_to, string};
 use crate::laws::heads_are_read;
 use crate::shared::shared_head;
@@ -36,7 +36,7 @@ fn reply_at(total: usize, at: Cursor<'_>) -> Result<ReplyHead<'_>, HeadErr>
     ensures { seen_by reply_seen result
         ≡ reported reply_reported (read_head_of_reply total at.entry.place at.entry.rest.now) }
 {
-    let (header, at) = header(Way::Replies, total, at)?;
+    let (header, at) = header(HeadKind::Replies, total, at)?;
     let order = header.order;
     let minor = header.minor;
     let at = first(minor, order, at)?;

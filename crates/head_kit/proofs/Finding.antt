@@ -2,18 +2,18 @@
 use Rattle.std.proofs.Common.{◌≡◌, ◌+◌, ◌<◌, ◌≤◌, ℕ, zero, suc, Bool, true, false, List, [], ◌∷◌, ◌++◌, Option, Some, None, length, get_or, refl, ap, arith}
 use Rattle.std.specs.Prelude.{slice_get, if◌then◌else◌}
 use Rattle.std.specs.List.{position_from}
-use Rattle.head_kit.specs.declared.called.Naming.{Naming}
-use Rattle.head_kit.specs.declared.called.Naming.TheVariants as naming
+use Rattle.head_kit.specs.declared.call_head.CallTarget.{CallTarget}
+use Rattle.head_kit.specs.declared.call_head.CallTarget.TheVariants as naming
 use Rattle.head_kit.specs.Calls.{IsBelow, operation_at}
 
 -- ---- operations that are named are among those that there are
 
-pub more : (n m : ℕ) (x : Naming) → IsBelow n x → n ≤ m → IsBelow m x
+pub more : (n m : ℕ) (x : CallTarget) → IsBelow n x → n ≤ m → IsBelow m x
 more n m (naming.Operation op) below h = omega arith
 more n m naming.NoInterface below h = tt
 more n m naming.NoOperation below h = tt
 
-pub either : (n : ℕ) (b : Bool) (x y : Naming) → IsBelow n x → IsBelow n y → IsBelow n (if b then x else y)
+pub either : (n : ℕ) (b : Bool) (x y : CallTarget) → IsBelow n x → IsBelow n y → IsBelow n (if b then x else y)
 either n true x y h g = h
 either n false x y h g = g
 

@@ -5,7 +5,7 @@ use Rattle.std.specs.List.{position_from}
 use Rattle.std.proofs.lemmas.List.{length-map, map-append, drop_more, get_or-map, get_or_append_left, get_or-append-add}
 use Rattle.std.proofs.lemmas.Option.{slice_get-map}
 use Rattle.std.proofs.lemmas.Simd.{map-map}
-use Rattle.head_kit.specs.declared.called.Naming.TheVariants as naming
+use Rattle.head_kit.specs.declared.call_head.CallTarget.TheVariants as naming
 use Rattle.head_kit.specs.Calls.{IsBelow, operation_at, named_from}
 use Rattle.head_kit.proofs.Finding.{more, either, position_below, chosen, passed, place_of, Found, found, in_front, after, at_some}
 

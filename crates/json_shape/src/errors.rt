@@ -54,7 +54,7 @@ impl From<NoMemory> for RecordErr {
 #[derive(Clone, Copy, Debug, PartialEq, Eq)]
 pub(crate) enum Halt {
     /// It is to be done by its tree.
-    Otherwise,
+    Fallback,
     /// Memory ran out.
     NoMemory,
 }
@@ -80,7 +80,7 @@ impl<T: Drop> From<AllocFailed<T>> for Halt {
 impl From<ShapeErr> for Halt {
     fn from(error: ShapeErr) -> Halt {
         match error {
-            ShapeErr::Shape => Halt::Otherwise,
+            ShapeErr::Shape => Halt::Fallback,
             ShapeErr::NoMemory => Halt::NoMemory,
         }
     }
@@ -90,7 +90,7 @@ impl From<FromHexError> for Halt {
     fn from(error: FromHexError) -> Halt {
         match error {
             FromHexError::OutOfMemory => Halt::NoMemory,
-            _ => Halt::Otherwise,
+            _ => Halt::Fallback,
         }
     }
 }
@@ -99,7 +99,7 @@ impl From<json::Error> for Halt {
     fn from(error: json::Error) -> Halt {
         match error {
             json::Error::OutOfMemory => Halt::NoMemory,
-            _ => Halt::Otherwise,
+            _ => Halt::Fallback,
         }
     }
 }

@@ -19,7 +19,7 @@ pub(crate) fn order_of(alloc: Global, names: &FieldTable) -> Result<Vec<usize>, 
 {
     let mut i = names.as_slice().len();
     if i > MOST_FIELDS {
-        return Err(Halt::Otherwise);
+        return Err(Halt::Fallback);
     }
     let mut order = Vec::with_capacity(alloc, i)?;
     while i > 0 {
@@ -42,7 +42,7 @@ fn place_of(names: &FieldTable, i: usize, order: &[usize]) -> Result<usize, Halt
         match key.cmp(key_at(names, *k)?) {
             Ordering::Greater => {}
             Ordering::Less => return Ok(p),
-            Ordering::Equal => return Err(Halt::Otherwise),
+            Ordering::Equal => return Err(Halt::Fallback),
         }
     }
     Ok(order.len())
@@ -53,7 +53,7 @@ fn key_at(names: &FieldTable, i: usize) -> Result<&str, Halt>
     ensures { IfOk result (λ k. k.now ≡ key_at names.now i) }
 {
     if i >= names.as_slice().len() {
-        return Err(Halt::Otherwise);
+        return Err(Halt::Fallback);
     }
     Ok(names.text(i))
 }

@@ -36,6 +36,6 @@ pub use reading::to_value;
 pub use records::RequestRec;
 pub use replies::{read_given, read_reply, reply_named};
 pub use requests::read_request;
-pub use usual_requests::usual_request;
+pub use usual_requests::direct_request;
 pub use writing::to_json;
 pub use written_records::{write_reply, write_request};

@@ -38,7 +38,7 @@ pub fn request_text(
     };
     match text_of_record(alloc, bound, operation, head, value) {
         Ok(text) => Ok(Some(text)),
-        Err(Halt::Otherwise) => Ok(None),
+        Err(Halt::Fallback) => Ok(None),
         Err(Halt::NoMemory) => Err(NoMemory),
     }
 }

@@ -39,7 +39,7 @@ pub(crate) fn put_number(alloc: Global, kind: Kind, n: &i128, out: &mut Writer) 
     ensures { OnOk result (Adds out.old out.new (tokens_of (number_json kind n.now))) }
 {
     if !kind.has(*n) {
-        return Err(Halt::Otherwise);
+        return Err(Halt::Fallback);
     }
     match kind {
         Kind::Bool => put_truth(*n != 0, out),
@@ -75,7 +75,7 @@ fn put_whole(n: &i128, out: &mut Writer) -> Result<(), Halt>
         return Ok(());
     }
     let Ok(m) = u64::try_from(*n) else {
-        return Err(Halt::Otherwise);
+        return Err(Halt::Fallback);
     };
     out.u64(m)?;
     Ok(())

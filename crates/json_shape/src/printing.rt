@@ -41,34 +41,34 @@ pub(crate) fn print(
         Node::Void => put_null(out),
         Node::Num(kind) => match value.as_num() {
             Some(n) => put_number(alloc, *kind, &n, out),
-            None => Err(Halt::Otherwise),
+            None => Err(Halt::Fallback),
         },
         Node::Enum(_) => match value.as_num() {
             Some(n) => put_item(shape, &n, out),
-            None => Err(Halt::Otherwise),
+            None => Err(Halt::Fallback),
         },
         Node::Text(_) | Node::Row(_, _) => match value.as_row() {
             Some(row) => put_row(alloc, row, out),
-            None => Err(Halt::Otherwise),
+            None => Err(Halt::Fallback),
         },
         Node::Group(ids) => match value.as_group() {
             Some(values) => group(alloc, bound, id, ids, shape, values, out),
-            None => Err(Halt::Otherwise),
+            None => Err(Halt::Fallback),
         },
         Node::Items(item, _) => match value.as_items() {
             Some(values) => items(alloc, bound, id, *item, values, out),
-            None => Err(Halt::Otherwise),
+            None => Err(Halt::Fallback),
         },
         Node::Choice(tag, arms, other) => match value.as_arm() {
             Some((n, inner)) => {
                 choice(alloc, bound, id, tag, shape, arms, *other, &n, inner, out)
             }
-            None => Err(Halt::Otherwise),
+            None => Err(Halt::Fallback),
         },
         Node::Maybe(item) => match value.as_opt() {
             Some(None) => put_nothing(out),
             Some(Some(inner)) => alone(alloc, bound, id, *item, inner, out),
-            None => Err(Halt::Otherwise),
+            None => Err(Halt::Fallback),
         },
     }
 }
@@ -164,12 +164,12 @@ fn by_name(
     let ids = ids.as_slice();
     let values = values.as_slice();
     if values.len() != ids.len() {
-        return Err(Halt::Otherwise);
+        return Err(Halt::Fallback);
     }
     out.begin_object()?;
     for i in order {
         if *i >= ids.len() {
-            return Err(Halt::Otherwise);
+            return Err(Halt::Fallback);
         }
         out.key(names.text(*i))?;
         print(alloc, bound, ids[*i], &values[*i], out)?;
@@ -279,7 +279,7 @@ fn structs(
     for value in values.as_slice() {
         match value.as_group() {
             Some(fields) => by_name(alloc, bound, id, ids, names, order.as_slice(), fields, out)?,
-            None => return Err(Halt::Otherwise),
+            None => return Err(Halt::Fallback),
         }
     }
     out.end_array()?;
@@ -339,6 +339,6 @@ fn arm(
 {
     match arm_of(arms, other, n) {
         Some(item) => print(alloc, bound, item, inner, out),
-        None => Err(Halt::Otherwise),
+        None => Err(Halt::Fallback),
     }
 }

@@ -23,9 +23,14 @@ use pres::{Bound, FieldTable, Shape};
 use std::alloc::Global;
 
 /// The value that the text shows for a node, whatever the counts and labels of the types.
-#[cycle(scan)]
+#[cycle(read_direct)]
 #[tactic(auto, unfolding(crate::specs::Reading::value_of))]
-pub(crate) fn scan(alloc: Global, bound: &Bound, id: NodeId, tree: &Tree<'_>) -> Result<Value, Halt>
+pub(crate) fn read_direct(
+    alloc: Global,
+    bound: &Bound,
+    id: NodeId,
+    tree: &Tree<'_>,
+) -> Result<Value, Halt>
     requires { id < length bound.now.nodes }
     ensures { IfOk result (λ v. IsRead (value_view tree.now)
         (value_of (face_at bound.now.nodes bound.now.shapes id)) (seen v)) }
@@ -40,13 +45,13 @@ pub(crate) fn scan(alloc: Global, bound: &Bound, id: NodeId, tree: &Tree<'_>) ->
         Node::Row(kind, _) => Ok(Value::Row(row(alloc, *kind, tree)?)),
         Node::Group(ids) => group(alloc, bound, id, ids, shape, tree),
         Node::Items(item, size) => items(alloc, bound, id, *item, *size, tree),
-        Node::Void => Err(Halt::Otherwise),
-        Node::Choice(_, _, _) => Err(Halt::Otherwise),
-        Node::Maybe(_) => Err(Halt::Otherwise),
+        Node::Void => Err(Halt::Fallback),
+        Node::Choice(_, _, _) => Err(Halt::Fallback),
+        Node::Maybe(_) => Err(Halt::Fallback),
     }
 }
 
-#[cycle(scan)]
+#[cycle(read_direct)]
 #[tactic(auto, unfolding(crate::specs::Reading::value_of))]
 fn group(
     alloc: Global,
@@ -69,7 +74,7 @@ fn group(
 }
 
 /// A struct, from an object.
-#[cycle(scan)]
+#[cycle(read_direct)]
 fn named(
     alloc: Global,
     bound: &Bound,
@@ -90,7 +95,7 @@ fn named(
 }
 
 /// Values without names, from an array.
-#[cycle(scan)]
+#[cycle(read_direct)]
 fn unnamed(
     alloc: Global,
     bound: &Bound,
@@ -109,7 +114,7 @@ fn unnamed(
 }
 
 /// The fields of a struct, from members in their order.
-#[cycle(scan)]
+#[cycle(read_direct)]
 fn fields<'a>(
     alloc: Global,
     bound: &Bound,
@@ -126,19 +131,19 @@ fn fields<'a>(
         (by_name (parts_at (faces bound.now.nodes bound.now.shapes) names.now ids.now)) (all_seen vs)) }
 {
     if found.len() != ids.len() {
-        return Err(Halt::Otherwise);
+        return Err(Halt::Fallback);
     }
     let mut values = Values::with_room(alloc, ids.len())?;
     for (i, field) in ids.as_slice().iter().enumerate() {
         let tree = after_key(names.text(i), &found[i])?;
-        let value = scan(alloc, bound, *field, tree)?;
+        let value = read_direct(alloc, bound, *field, tree)?;
         values.push(value)?;
     }
     Ok(values)
 }
 
 /// Values in order, from an array with one for each.
-#[cycle(scan)]
+#[cycle(read_direct)]
 fn parts(
     alloc: Global,
     bound: &Bound,
@@ -152,18 +157,18 @@ fn parts(
         (in_order (parts_at (faces bound.now.nodes bound.now.shapes) [] ids.now)) (all_seen vs)) }
 {
     if found.len() != ids.len() {
-        return Err(Halt::Otherwise);
+        return Err(Halt::Fallback);
     }
     let mut values = Values::with_room(alloc, ids.len())?;
     for (i, field) in ids.as_slice().iter().enumerate() {
-        let value = scan(alloc, bound, *field, &found[i])?;
+        let value = read_direct(alloc, bound, *field, &found[i])?;
         values.push(value)?;
     }
     Ok(values)
 }
 
 /// The elements of a list, from an array.
-#[cycle(scan)]
+#[cycle(read_direct)]
 fn items(
     alloc: Global,
     bound: &Bound,
@@ -183,7 +188,7 @@ fn items(
 }
 
 /// The elements, from the items of an array.
-#[cycle(scan)]
+#[cycle(read_direct)]
 fn each(
     alloc: Global,
     bound: &Bound,
@@ -198,7 +203,7 @@ fn each(
 {
     let mut values = Values::with_room(alloc, found.len())?;
     for tree in found {
-        let value = scan(alloc, bound, item, tree)?;
+        let value = read_direct(alloc, bound, item, tree)?;
         values.push(value)?;
     }
     Ok(values)

@@ -17,7 +17,7 @@ use crate::members::{head_key, is_mach};
 use crate::operations::{is_oneway, op_named};
 use crate::records::RequestRec;
 use crate::requests::{head_of, is_idle_port};
-use crate::usual::scan;
+use crate::usual::read_direct;
 use crate::usual_scalars::integer;
 use crate::usual_tokens::{digits_in, items_in, leading, members_in, string_in};
 use json::{Reader, Scratch, Value as Tree};
@@ -34,7 +34,7 @@ const DEEPEST: usize = 127;
 
 /// The request that a text presents as a record, where it is in the usual form; none says nothing of the text.
 /// The scratch has space for its strings and places: one is kept from line to line.
-pub fn usual_request(
+pub fn direct_request(
     alloc: Global,
     bound: &Bound,
     line: &str,
@@ -47,7 +47,7 @@ pub fn usual_request(
 {
     match request_in(alloc, bound, line, scratch) {
         Ok(record) => Ok(Some(record)),
-        Err(Halt::Otherwise) => Ok(None),
+        Err(Halt::Fallback) => Ok(None),
         Err(Halt::NoMemory) => Err(NoMemory),
     }
 }
@@ -67,7 +67,7 @@ fn request_in(
     let mut reader = Reader::new(line, scratch)?;
     let tree = Tree::read(alloc, &mut reader, DEEPEST)?;
     if reader.next().is_some() {
-        return Err(Halt::Otherwise);
+        return Err(Halt::Fallback);
     }
     request_of(alloc, bound, &tree)
 }
@@ -103,13 +103,13 @@ fn request_members<'v, 'a>(back: Back, tree: &'v Tree<'a>) -> Result<RequestMemb
     let (id_before, past_id) = leading(past_args, head_key(back));
     let (local_before, from_op) = leading_port(back, past_id);
     let (Some(op), after_op) = leading(from_op, "op") else {
-        return Err(Halt::Otherwise);
+        return Err(Halt::Fallback);
     };
     let (id_after, after_id) = leading(after_op, head_key(back));
     let (local_after, after_local) = leading_port(back, after_id);
     let (args_after, others) = leading(after_local, "args");
     if !others.is_empty() {
-        return Err(Halt::Otherwise);
+        return Err(Halt::Fallback);
     }
     Ok(RequestMembers {
         op,
@@ -129,7 +129,7 @@ fn once<'v, 'a>(
     match (before, after) {
         (None, after) => Ok(after),
         (before, None) => Ok(before),
-        _ => Err(Halt::Otherwise),
+        _ => Err(Halt::Fallback),
     }
 }
 
@@ -168,10 +168,10 @@ fn record_of(
         let _listed = items_in(args)?;
     }
     let Some((number, operation)) = op_named(bound, name)? else {
-        return Err(Halt::Otherwise);
+        return Err(Halt::Fallback);
     };
     if is_idle_port(operation, port) {
-        return Err(Halt::Otherwise);
+        return Err(Halt::Fallback);
     }
     let value = args_in(alloc, bound, operation.request, members.args)?;
     let head = head_of(bound.back(), word, port, !is_oneway(bound, number));
@@ -201,11 +201,11 @@ fn word_in(tree: &Tree<'_>) -> Result<u32, Halt>
 {
     let digits = digits_in(tree)?;
     let Some(n) = integer(digits) else {
-        return Err(Halt::Otherwise);
+        return Err(Halt::Fallback);
     };
     match u32::try_from(n) {
         Ok(word) => Ok(word),
-        Err(_) => Err(Halt::Otherwise),
+        Err(_) => Err(Halt::Fallback),
     }
 }
 
@@ -237,10 +237,10 @@ fn value_in(alloc: Global, bound: &Bound, id: NodeId, tree: &Tree<'_>) -> Result
         unreachable!()
     };
     let _found = items_in(tree)?;
-    let value = scan(alloc, bound, id, tree)?;
+    let value = read_direct(alloc, bound, id, tree)?;
     if fits(bound.mint(), id, &value) {
         Ok(value)
     } else {
-        Err(Halt::Otherwise)
+        Err(Halt::Fallback)
     }
 }

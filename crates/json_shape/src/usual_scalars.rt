@@ -29,7 +29,7 @@ pub(crate) fn number(kind: Kind, tree: &Tree<'_>) -> Result<i128, Halt>
 {
     match kind {
         Kind::Bool => truth(tree),
-        Kind::Char => Err(Halt::Otherwise),
+        Kind::Char => Err(Halt::Fallback),
         _ => whole(kind, tree),
     }
 }
@@ -53,7 +53,7 @@ fn whole(kind: Kind, tree: &Tree<'_>) -> Result<i128, Halt>
 {
     let digits = digits_in(tree)?;
     let Some(n) = integer(digits) else {
-        return Err(Halt::Otherwise);
+        return Err(Halt::Fallback);
     };
     let n = ranged(kind, n)?;
     Ok(n)
@@ -68,7 +68,7 @@ fn ranged(kind: Kind, n: i128) -> Result<i128, Halt>
     if kind.has(n) {
         Ok(n)
     } else {
-        Err(Halt::Otherwise)
+        Err(Halt::Fallback)
     }
 }
 
@@ -171,7 +171,7 @@ fn push_number(row: &mut Row, n: &i128) -> Result<(), Halt>
         row.push(*n)?;
         Ok(())
     } else {
-        Err(Halt::Otherwise)
+        Err(Halt::Fallback)
     }
 }
 

@@ -15,7 +15,7 @@ pub(crate) fn string_in<'a>(tree: &Tree<'a>) -> Result<&'a str, Halt>
 {
     match tree {
         Tree::String(text) => Ok(*text),
-        _ => Err(Halt::Otherwise),
+        _ => Err(Halt::Fallback),
     }
 }
 
@@ -25,7 +25,7 @@ pub(crate) fn digits_in<'a>(tree: &Tree<'a>) -> Result<&'a str, Halt>
 {
     match tree {
         Tree::Number(digits) => Ok(*digits),
-        _ => Err(Halt::Otherwise),
+        _ => Err(Halt::Fallback),
     }
 }
 
@@ -35,7 +35,7 @@ pub(crate) fn boolean_in(tree: &Tree<'_>) -> Result<bool, Halt>
 {
     match tree {
         Tree::Bool(truth) => Ok(*truth),
-        _ => Err(Halt::Otherwise),
+        _ => Err(Halt::Fallback),
     }
 }
 
@@ -46,7 +46,7 @@ pub(crate) fn items_in<'v, 'a>(tree: &'v Tree<'a>) -> Result<&'v [Tree<'a>], Hal
 {
     match tree {
         Tree::Array(items) => Ok(items.as_slice()),
-        _ => Err(Halt::Otherwise),
+        _ => Err(Halt::Fallback),
     }
 }
 
@@ -57,7 +57,7 @@ pub(crate) fn members_in<'v, 'a>(tree: &'v Tree<'a>) -> Result<&'v [(&'a str, Tr
 {
     match tree {
         Tree::Object(members) => Ok(members.as_slice()),
-        _ => Err(Halt::Otherwise),
+        _ => Err(Halt::Fallback),
     }
 }
 
@@ -86,6 +86,6 @@ pub(crate) fn after_key<'v, 'a>(
     if member.0 == key {
         Ok(&member.1)
     } else {
-        Err(Halt::Otherwise)
+        Err(Halt::Fallback)
     }
 }

@@ -13,6 +13,14 @@ longest_line = 8388608
 abbrev pub longest_file : ℕ
 longest_file = 1048576
 
+-- the octets of the longest file of replies
+abbrev pub longest_replies : ℕ
+longest_replies = 8388608
+
+-- the octets of the longest file of stubs
+abbrev pub longest_stubs : ℕ
+longest_stubs = 8388608
+
 -- the octets that may be taken of an input
 abbrev pub most_input : ℕ
 most_input = 1073741824

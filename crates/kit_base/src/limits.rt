@@ -9,6 +9,12 @@ pub const LONGEST_LINE: u32 = 8_388_608;
 /// The octets of the longest interface file.
 pub const LONGEST_FILE: u32 = 1_048_576;
 
+/// The octets of the longest file of replies.
+pub const LONGEST_REPLIES: u32 = 8_388_608;
+
+/// The octets of the longest file of stubs.
+pub const LONGEST_STUBS: u32 = 8_388_608;
+
 /// The octets that may be taken of an input.
 pub const MOST_INPUT: u64 = 1_073_741_824;
 

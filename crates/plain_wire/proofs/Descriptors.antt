@@ -11,7 +11,7 @@ use Rattle.mint.specs.Types.{number}
 use Rattle.wire_def.specs.declared.encoding.Encoding.TheVariants.{Mach}
 use Rattle.wire_def.specs.Scalars.{gap, scalar_octets}
 use Rattle.wire_def.specs.Lone.{filling, lone_octets, scalar_word, units_of}
-use Rattle.wire_def.specs.Described.{is_long, long_words}
+use Rattle.wire_def.specs.Described.{is_long, long_words, most_units}
 use Rattle.plain_wire.specs.Rows.{bare_octets}
 
 -- 8 octets are a number modulo 2 to the 64
@@ -39,7 +39,7 @@ units_few : (c m n u : ℕ) → n ≤ m → m * u ≤ c → n * u ≤ c
 units_few c m n u le few = omega (arith, mul-le-mul_right u le)
 
 -- a short descriptor has at most 4,095 units
-pub short_few : (c : Count) (k : Kind) (n : ℕ) → Allows c n → is_long c (number k) ≡ false → n * units_of (number k) < 4096
+pub short_few : (c : Count) (k : Kind) (n : ℕ) → Allows c n → is_long c (number k) ≡ false → n * units_of (number k) ≤ most_units
 short_few (Exactly m) k n is h = rw is (omega (arith, ltb-false 4095 (m * units_of (number k)) h))
 short_few (AtMost m) k n is h = omega (arith, units_few 4095 m n (units_of (number k)) is.0 (ltb-false 4095 (m * units_of (number k)) h))
 short_few Any k n is h = absurd cc

@@ -14,7 +14,7 @@ use crate::read_scalar::{label_at, number_at, word_32, word_64};
 use crate::units::filling_of;
 use mint::kind::{Count, Kind};
 use mint::node::Labels;
-use wire_def::descriptors::{unit_word, units_in, word_of};
+use wire_def::descriptors::{MOST_UNITS, unit_word, units_in, word_of};
 use wire_def::{Encoding, Fault, FaultKind};
 
 /// So many octets, whatever they are.
@@ -85,7 +85,11 @@ fn may_be(bound: Count, kind: Kind, long: bool) -> bool
     match bound {
         Count::Exactly(m) => {
             let many = u64::from(m) * u64::from(units_in(kind));
-            if long { many > 4095 } else { many <= 4095 }
+            if long {
+                many > MOST_UNITS
+            } else {
+                many <= MOST_UNITS
+            }
         }
         Count::AtMost(_) | Count::Any => true,
     }

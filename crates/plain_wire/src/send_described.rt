@@ -7,7 +7,7 @@ ghost use Rattle.mint.specs.Types.{number};
 ghost use Rattle.mint.specs.Typed.{IsScalar};
 ghost use Rattle.wire_def.specs.declared.encoding.Encoding.TheVariants.{Mach};
 ghost use Rattle.wire_def.specs.Lone.{filling, lone_octets, scalar_word};
-ghost use Rattle.wire_def.specs.Described.{described_octets};
+ghost use Rattle.wire_def.specs.Described.{described_octets, most_units};
 ghost use Rattle.plain_wire.specs.Rows.{bare_octets};
 ghost use Rattle.plain_wire.specs.Sending.{Appends, IsNear, long_octets, short_octets};
 
@@ -39,7 +39,7 @@ fn put_eight(word: u64, place: usize, out: &mut Octets) -> Result<usize, NoMemor
 
 /// Puts the short descriptor of so many units.
 fn put_short(kind: Kind, many: u32, place: usize, out: &mut Octets) -> Result<usize, NoMemory>
-    requires few { many < 4096 }
+    requires few { many ≤ most_units }
     requires near { IsNear place out.old }
     ensures { Appends out.old out.new place (short_octets kind many) result }
 {

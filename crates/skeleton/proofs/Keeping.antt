@@ -9,7 +9,7 @@ use Rattle.mint.specs.Typed.{IsWellTyped}
 use Rattle.mint.specs.Values.{seen}
 use Rattle.pres.specs.Bindings.{Binding}
 use Rattle.skeleton.specs.Exchanges.{reply_type}
-use Rattle.skeleton.specs.Kept.{Kept, Places, IsKept, reply_at}
+use Rattle.skeleton.specs.TableSkeleton.{TableSkeleton, Places, IsKept, reply_at}
 
 abbrev no_reply : Option Value
 no_reply = None
@@ -20,7 +20,7 @@ none_at (suc n) zero = refl
 none_at (suc n) (suc op) = none_at n op
 
 -- a binding with a table
-abbrev pub with_table : Binding → Places → Kept
+abbrev pub with_table : Binding → Places → TableSkeleton
 with_table b places = record { binding = b; replies = places }
 
 -- a table without replies fits
@@ -30,10 +30,10 @@ none_is_kept b = record {
   typed = λ op v is. let none = none_at (length b.ops) op in absurd cc;
 }
 
-module _ (k : Kept) (op : ℕ) (v : Value) (kept : IsKept k) (there : op < length k.binding.ops)
+module _ (k : TableSkeleton) (op : ℕ) (v : Value) (kept : IsKept k) (there : op < length k.binding.ops)
     (fits : IsWellTyped (reply_type k.binding op) (seen v)) where
   -- the table with a reply of the operation in its place
-  abbrev with_reply : Kept
+  abbrev with_reply : TableSkeleton
   with_reply = with_table k.binding (set k.replies op (Some v))
 
   typed_at : (n : ℕ) (w : Value) (t : Bool) → (n == op) ≡ t → reply_at with_reply n ≡ Some w

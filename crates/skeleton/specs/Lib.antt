@@ -1,2 +1,2 @@
 pub mod Exchanges
-pub mod Kept
+pub mod TableSkeleton

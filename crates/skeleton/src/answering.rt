@@ -3,7 +3,7 @@
 ghost use Rattle.std.specs.Prelude.{◌≡◌, ◌<◌, None, Some, length, IfNone, IfSome};
 ghost use Rattle.mint.specs.Types.{type_at};
 ghost use Rattle.skeleton.specs.Exchanges.{reply_type};
-ghost use Rattle.skeleton.specs.Kept.{answer_at, reply_at, IsKept};
+ghost use Rattle.skeleton.specs.TableSkeleton.{answer_at, reply_at, IsKept};
 
 use crate::table::Replies;
 use crate::work::Skeleton;
@@ -19,16 +19,16 @@ use std::marker::Model;
 /// The replies of a table to the operations of a binding: a kept one to some, the blank one to the
 /// others. They are given whatever the request.
 #[derive(Drop)]
-pub struct Kept<'a> {
+pub struct TableSkeleton<'a> {
     bound: &'a Bound,
     replies: &'a Replies,
 }
 
-impl<'a> Model for Kept<'a> {
+impl<'a> Model for TableSkeleton<'a> {
     ghost use Rattle.std.specs.Coded.{codes};
     ghost use Rattle.aoi.specs.Stored.{coded_shape, coded_members};
     ghost use Rattle.mint.specs.contracts.value.Value as value;
-    ghost use Rattle.skeleton.specs.Kept.{IsKept, Kept as Table};
+    ghost use Rattle.skeleton.specs.TableSkeleton.{IsKept, TableSkeleton as Table};
 
     ghost Value = { Table };
 
@@ -39,13 +39,13 @@ impl<'a> Model for Kept<'a> {
     ghost invariant = { λ k. IsKept (record { binding = k.bound.now; replies = k.replies.now }) };
 }
 
-impl<'a> Kept<'a> {
+impl<'a> TableSkeleton<'a> {
     /// The replies of a table that has a place for each operation, and fits them.
-    pub fn new(bound: &'a Bound, replies: &'a Replies) -> Kept<'a>
+    pub fn new(bound: &'a Bound, replies: &'a Replies) -> TableSkeleton<'a>
         requires { IsKept (record { binding = bound.now; replies = replies.now }) }
         ensures { result ≡ record { binding = bound.now; replies = replies.now } }
     {
-        Kept { bound, replies }
+        TableSkeleton { bound, replies }
     }
 
     /// The reply that is kept for an operation.
@@ -70,7 +70,7 @@ impl<'a> Kept<'a> {
     }
 }
 
-impl<'a> Skeleton for Kept<'a> {
+impl<'a> Skeleton for TableSkeleton<'a> {
     ghost binding = { λ k. k.binding };
 
     ghost Answers = { λ k op request v. v ≡ answer_at k op };

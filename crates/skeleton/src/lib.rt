@@ -5,6 +5,6 @@ mod answering;
 mod table;
 mod work;
 
-pub use answering::Kept;
+pub use answering::TableSkeleton;
 pub use table::{Replies, Twice};
 pub use work::Skeleton;

@@ -1,7 +1,7 @@
 //! A table of replies.
 
 ghost use Rattle.std.specs.Prelude.{◌≡◌, ◌<◌, None, Some, length, replicate, slice_set, is_err, is_some, IfNone, IfOk, IfSome, OnErr, OnOk};
-ghost use Rattle.skeleton.specs.Kept.{kept_in};
+ghost use Rattle.skeleton.specs.TableSkeleton.{kept_in};
 
 use kit_base::{Listed, NoMemory};
 use mint::value::Value;
@@ -21,7 +21,7 @@ pub struct Replies {
 impl Model for Replies {
     ghost use Rattle.std.specs.Coded.{codes};
     ghost use Rattle.mint.specs.contracts.value.Value as value;
-    ghost use Rattle.skeleton.specs.Kept.{Places};
+    ghost use Rattle.skeleton.specs.TableSkeleton.{Places};
 
     ghost Value = { Places };
 

@@ -9,7 +9,7 @@ use Rattle.wire_def.specs.declared.head.Order.{Order}
 use Rattle.wire_def.specs.declared.head.Order.TheVariants.{Big, Little}
 use Rattle.wire_def.specs.Places.{IsPlace}
 use Rattle.wire_def.specs.Scalars.{gap}
-use Rattle.head_kit.specs.declared.called.Called.{Called}
+use Rattle.head_kit.specs.declared.call_head.CallHead.{CallHead}
 use Rattle.pres.specs.Bindings.{Binding}
 use Rattle.giop_head.specs.Items.{laid}
 use Rattle.back_xdr.specs.declared.call.OncCall.{OncCall}
@@ -26,7 +26,7 @@ use Rattle.stub_codes.specs.Backs.{IsMinorOver, Takes, BeginsOver}
 use Rattle.stub_codes.proofs.Leading.{minor_over}
 use Rattle.stub_codes.specs.Laws.{BodiesAreTaken}
 
-abbrev IsTaken : Back → Called → Type 0
+abbrev IsTaken : Back → CallHead → Type 0
 IsTaken k c = Takes k c.encoding × IsPlace c.encoding c.used × IsMinorOver k c.minor
 
 -- ---- ONC
@@ -42,16 +42,16 @@ auth_whole a =
 call_whole : (c : Call) → length (call_octets c) % 4 ≡ 0
 call_whole c = omega (arith, length-append (auth_octets c.cred) (auth_octets c.verf), auth_whole c.cred, auth_whole c.verf)
 
-xdr_taken : (b : Binding) (o : List ℕ) (c : Called) → xdr_seeking.Calls b o c → IsTaken back.Xdr c
+xdr_taken : (b : Binding) (o : List ℕ) (c : CallHead) → xdr_seeking.Calls b o c → IsTaken back.Xdr c
 xdr_taken b o c (call, (head, used, begins, is), same) =
     let whole : length (take used o) ≡ length (call_octets head) = ap length begins.1.0 in
     let long : used ≡ length (take used o) = omega (arith, length-take used o, begins.0) in
     let four : used % 4 ≡ 0 = ap (λ (n : ℕ). n % 4) (long ∙ whole) ∙ call_whole head in
-    let mine : used ≡ c.used = ap (λ (t : OncCall). t.used) is ∙ ap (λ (t : Called). t.used) same in
-    let lies : Xdr ≡ c.encoding = ap (λ (t : Called). t.encoding) same in (
+    let mine : used ≡ c.used = ap (λ (t : OncCall). t.used) is ∙ ap (λ (t : CallHead). t.used) same in
+    let lies : Xdr ≡ c.encoding = ap (λ (t : CallHead). t.encoding) same in (
       inl (sym lies),
       subst (λ (e : Encoding). IsPlace e c.used) lies (subst (λ (n : ℕ). n % 4 ≡ 0) mine four),
-      inl (sym (ap (λ (t : Called). t.minor) same)),
+      inl (sym (ap (λ (t : CallHead). t.minor) same)),
     )
 
 -- ---- GIOP
@@ -68,10 +68,10 @@ laid_placed : (r : Order) (n : ℕ) → IsPlace (laid r) n
 laid_placed Big n = tt
 laid_placed Little n = tt
 
-cdr_taken : (k : Back) → IsCdr k → ((r : Order) → Takes k (laid r)) → (b : Binding) (o : List ℕ) (c : Called)
+cdr_taken : (k : Back) → IsCdr k → ((r : Order) → Takes k (laid r)) → (b : Binding) (o : List ℕ) (c : CallHead)
     → cdr_seeking.Calls b o c → IsTaken k c
 cdr_taken k cdr takes b o c (reported, begins, same) =
-    let lies : laid reported.head.order ≡ c.encoding = ap (λ (t : Called). t.encoding) same in (
+    let lies : laid reported.head.order ≡ c.encoding = ap (λ (t : CallHead). t.encoding) same in (
       subst (λ (e : Encoding). Takes k e) lies (takes reported.head.order),
       subst (λ (e : Encoding). IsPlace e c.used) lies
           (laid_placed reported.head.order c.used),
@@ -80,22 +80,22 @@ cdr_taken k cdr takes b o c (reported, begins, same) =
 
 -- ---- Mach
 
-mach_taken : (b : Binding) (o : List ℕ) (c : Called) → mach_seeking.Calls b o c → IsTaken back.Mach c
+mach_taken : (b : Binding) (o : List ℕ) (c : CallHead) → mach_seeking.Calls b o c → IsTaken back.Mach c
 unfolding SixSpell
 mach_taken b o c (call, (head, used, begins, is), same) =
     let whole : length (take used o) ≡ 24 = ap length begins.1.0.0.0 in
     let long : used ≡ length (take used o) = omega (arith, length-take used o, begins.0) in
     let four : used % 4 ≡ 0 = ap (λ (n : ℕ). n % 4) (long ∙ whole) in
-    let mine : used ≡ c.used = ap (λ (t : MachCall). t.used) is ∙ ap (λ (t : Called). t.used) same in
-    let lies : Mach ≡ c.encoding = ap (λ (t : Called). t.encoding) same in (
+    let mine : used ≡ c.used = ap (λ (t : MachCall). t.used) is ∙ ap (λ (t : CallHead). t.used) same in
+    let lies : Mach ≡ c.encoding = ap (λ (t : CallHead). t.encoding) same in (
       inl (sym lies),
       subst (λ (e : Encoding). IsPlace e c.used) lies (subst (λ (n : ℕ). n % 4 ≡ 0) mine four),
-      inl (sym (ap (λ (t : Called). t.minor) same)),
+      inl (sym (ap (λ (t : CallHead). t.minor) same)),
     )
 
 -- ---- all of them
 
-over : (k : Back) (b : Binding) (o : List ℕ) (c : Called) → BeginsOver k b o c → IsTaken k c
+over : (k : Back) (b : Binding) (o : List ℕ) (c : CallHead) → BeginsOver k b o c → IsTaken k c
 over back.Xdr b o c h = xdr_taken b o c h
 over back.CdrBig b o c h = cdr_taken back.CdrBig refl big_taken b o c h
 over back.CdrLittle b o c h = cdr_taken back.CdrLittle refl little_taken b o c h

@@ -7,7 +7,7 @@ use Rattle.wire_def.specs.declared.encoding.Encoding.TheVariants.{CdrBig, CdrLit
 use Rattle.wire_def.specs.declared.head.Head.{Head}
 use Rattle.wire_def.specs.declared.head.Order.TheVariants.{Big, Little}
 use Rattle.cast_stub.specs.Block.{Block, stop, patch}
-use Rattle.head_kit.specs.declared.called.Called.{Called}
+use Rattle.head_kit.specs.declared.call_head.CallHead.{CallHead}
 use Rattle.pres.specs.Bindings.{Binding}
 use Rattle.head_arms.specs.Raised.{exceptions}
 use Rattle.giop_head.specs.Printed.{with_size}
@@ -79,12 +79,12 @@ tail back.CdrLittle = patch 8 12 Little stop
 tail back.Mach = patch 4 0 Little stop
 
 -- a message begins with the head of a call over a back end that says this
-abbrev pub BeginsOver : Back → Binding → List ℕ → Called → Type 0
+abbrev pub BeginsOver : Back → Binding → List ℕ → CallHead → Type 0
 BeginsOver back.Xdr b o c = xdr_seeking.Calls b o c
 BeginsOver back.CdrBig b o c = cdr_seeking.Calls b o c
 BeginsOver back.CdrLittle b o c = cdr_seeking.Calls b o c
 BeginsOver back.Mach b o c = mach_seeking.Calls b o c
 
 -- a message begins with the head of a call that says this
-abbrev pub Begins : Binding → List ℕ → Called → Type 0
+abbrev pub Begins : Binding → List ℕ → CallHead → Type 0
 Begins b o c = BeginsOver b.back b o c

@@ -5,7 +5,7 @@ use Rattle.mint.specs.Values.{Val}
 use Rattle.wire_def.specs.declared.head.Head.{Head}
 use Rattle.wire_def.specs.Places.{IsPlace}
 use Rattle.cast_stub.specs.Puts.{IsHead}
-use Rattle.head_kit.specs.declared.called.Called.{Called}
+use Rattle.head_kit.specs.declared.call_head.CallHead.{CallHead}
 use Rattle.pres.specs.Bindings.{Binding}
 use Rattle.stub_codes.specs.Backs.{Begins, IsMinorOver, Takes}
 use Rattle.stub_codes.specs.Messages.{request_type}
@@ -15,7 +15,7 @@ use Rattle.stub_codes.specs.Stubs.{Coded, IsCoded, IsSparingRequest, IsSparingRe
 -- a call that is received is of a version of its back end; its body is laid out in a way that this takes, and begins where a
 -- body may begin
 abbrev pub BodiesAreTaken : Type 0
-BodiesAreTaken = (b : Binding) (o : List ℕ) (c : Called) → Begins b o c
+BodiesAreTaken = (b : Binding) (o : List ℕ) (c : CallHead) → Begins b o c
     → Takes b.back c.encoding × IsPlace c.encoding c.used × IsMinorOver b.back c.minor
 
 -- a request has a cost, by the code that is kept for its operation, within what its message allows

@@ -76,7 +76,7 @@ impl Codes {
     }
 
     /// There is one code for each operation, and each is what is promised of its operation. It does nothing.
-    pub fn codes_are_the_operations(&self)
+    pub fn codes_match_operations(&self)
         ensures { IsCoded self.now }
     {
         let _stubs = &self.stubs;

@@ -1,6 +1,7 @@
 //! What an encoding gives: how a number, a count and the elements of an array are received.
 
 ghost use Rattle.std.specs.Prelude.{◌≡◌, ◌≤◌, ◌*◌, [], OnOk, IfOk};
+ghost use Rattle.wire_def.specs.Described.{most_units};
 ghost use Rattle.wire_def.specs.Lone.{units_of};
 ghost use Rattle.mint.specs.Types.{number, text, row_of};
 ghost use Rattle.cast_stub.specs.RecvAppend.{append};
@@ -170,7 +171,7 @@ fn add_free(alloc: Global, kind: Kind, out: &mut RecvOps) -> Result<(), NoMemory
 /// Puts the short descriptor of a fixed length.
 #[tactic(auto, using(crate::proofs::RecvBuilding::building))]
 fn add_fixed(alloc: Global, kind: Kind, many: u32, out: &mut RecvOps) -> Result<(), NoMemory>
-    requires { many * units_of (number kind) ≤ 4095 }
+    requires { many * units_of (number kind) ≤ most_units }
     ensures { OnOk result (code_seen out.new ≡ append (code_seen out.old) (fixed_code (number kind) many)) }
 {
     let octets = short_octets(alloc, kind, many * units_in(kind))?;

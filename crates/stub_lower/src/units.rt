@@ -4,6 +4,7 @@ ghost use Rattle.std.specs.Prelude.{◌≡◌, ◌<◌, ◌≤◌, IfOk};
 ghost use Rattle.kit_base.specs.Bytes.{le};
 ghost use Rattle.mint.specs.Types.{number};
 ghost use Rattle.wire_def.specs.Lone.{scalar_word, short_word, unit_bits, unit_name};
+ghost use Rattle.wire_def.specs.Described.{most_units};
 ghost use Rattle.stub_lower.specs.Items.{item_rest, number_at};
 ghost use Rattle.stub_lower.specs.Codes.{long_octets};
 
@@ -48,7 +49,7 @@ fn octets_of(alloc: Global, word: u32) -> Result<Octets, NoMemory>
 
 /// The octets of a short descriptor of so many units.
 pub(crate) fn short_octets(alloc: Global, kind: Kind, many: u32) -> Result<Octets, NoMemory>
-    requires { many < 4096 }
+    requires { many ≤ most_units }
     ensures { IfOk result
         (λ o. o ≡ le 4 (short_word (unit_name (number kind)) (unit_bits (number kind)) many)) }
 {

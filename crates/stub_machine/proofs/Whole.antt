@@ -7,7 +7,8 @@ use Rattle.cast_stub.specs.Steps.{Step, Steps}
 use Rattle.cast_stub.specs.Meaning.{wrote, costs, HasRoom, AreCovered}
 use Rattle.cast_stub.proofs.Folding.{room-more}
 use Rattle.stub_machine.specs.Run.{State, state_of, ran, Runs, Ends, Grown}
-use Rattle.stub_machine.specs.Sending.{paid, most, IsLong}
+use Rattle.kit_base.specs.Limits.{longest_message}
+use Rattle.stub_machine.specs.Sending.{paid, IsLong}
 use Rattle.stub_machine.proofs.Spending.{ended-stands}
 use Rattle.stub_machine.proofs.Rooms.{state, room-runs, ran-leads}
 
@@ -25,7 +26,7 @@ pub record Sent (x : Steps) (b c : Buf) : Type 0 where
   pub done : option_map (λ o. b.done ++ o) (on_some x (wrote (length b.done) [])) ≡ Some c.done
   pub tally : option_map (paid b.tally) (option_map costs x) ≡ Some c.tally
   pub spent : option_map (paid b.spent) (option_map costs x) ≡ Some c.spent
-  pub long : most < length c.done → IsLong (length b.done) (on_some x (wrote (length b.done) []))
+  pub long : longest_message < length c.done → IsLong (length b.done) (on_some x (wrote (length b.done) []))
 
 sent_of : (ss : List Step) (z : Option (List ℕ)) (b c : Buf) → wrote (length b.done) [] ss ≡ z → IsThere z
     → ran ss (state_of b) ≡ Some (state_of c)
@@ -45,7 +46,7 @@ sent_of ss (Some w) b c e there r =
 -- ---- where a run is broken off
 
 long_of : (ss : List Step) (z : Option (List ℕ)) (w : Option State) (b c : Buf) → wrote (length b.done) [] ss ≡ z
-    → IsThere z → ran ss (state_of b) ≡ w → IsThere w → Grown (Some ss) (state_of b) (state_of c) → most < length c.done
+    → IsThere z → ran ss (state_of b) ≡ w → IsThere w → Grown (Some ss) (state_of b) (state_of c) → longest_message < length c.done
     → IsLong (length b.done) z
 long_of ss None w b c e there r runs g over = absurd there
 long_of ss (Some o) None b c e there r runs g over = absurd runs
@@ -57,7 +58,7 @@ long_of ss (Some o) (Some u) b c e there r runs g over =
 
 -- what is too long already is too long at the end
 pub grown-long : (x : Steps) (b c : Buf) → AreCovered x (length b.done) → Runs x (state_of b)
-    → Grown x (state_of b) (state_of c) → most < length c.done
+    → Grown x (state_of b) (state_of c) → longest_message < length c.done
     → IsLong (length b.done) (on_some x (wrote (length b.done) []))
 grown-long None b c h runs g over = absurd h
 grown-long (Some ss) b c h runs g over = long_of ss (wrote (length b.done) [] ss) (ran ss (state_of b)) b c refl h.0 refl runs g over
@@ -68,7 +69,7 @@ ends-sent (Some ss) b c h e = sent_of ss (wrote (length b.done) [] ss) b c refl 
 
 -- a run that is too long, wherever it was broken off
 pub broken-long : {A E : Type 0} (r : Result A E) (x : Steps) (b c : Buf) → AreCovered x (length b.done) → Runs x (state_of b)
-    → OnOk r (Ends x (state_of b) (state_of c)) → OnErr r (Grown x (state_of b) (state_of c)) → most < length c.done
+    → OnOk r (Ends x (state_of b) (state_of c)) → OnErr r (Grown x (state_of b) (state_of c)) → longest_message < length c.done
     → IsLong (length b.done) (on_some x (wrote (length b.done) []))
 broken-long (Ok a) x b c h runs e g over = let s = ends-sent x b c h e in s.long over
 broken-long (Err a) x b c h runs e g over = grown-long x b c h runs g over

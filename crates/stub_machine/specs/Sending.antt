@@ -1,6 +1,7 @@
 -- What a run of a send code has done.
 use Rattle.std.specs.Prelude.{ℕ, ◌+◌, ◌<◌, List, length, Option, None, Some}
 use Rattle.kit_base.specs.Causes.{raised}
+use Rattle.kit_base.specs.Limits.{longest_message}
 use Rattle.raw_buf.specs.declared.tally.Tally.{Tally}
 use Rattle.cast_stub.specs.Meaning.{Cost}
 
@@ -13,11 +14,7 @@ paid t c = record {
   rows = raised t.rows c.rows;
 }
 
--- the octets that a message has at most
-abbrev pub most : ℕ
-most = 4194304
-
 -- octets that are too many after so many others
 abbrev pub IsLong : ℕ → Option (List ℕ) → Type 0
 IsLong p None = ⊥
-IsLong p (Some o) = most < p + length o
+IsLong p (Some o) = longest_message < p + length o

@@ -11,9 +11,6 @@ pub enum SendErr {
     NoMemory,
 }
 
-/// The octets that a buffer has at most at the end.
-pub const MOST: usize = 4_194_304;
-
 /// Why a run was broken off.
 #[derive(Clone, Copy, Debug, PartialEq, Eq)]
 pub enum Stopped {

@@ -5,17 +5,17 @@ ghost use Rattle.mint.specs.Values.{seen, all_seen, vals_of, num};
 ghost use Rattle.cast_stub.specs.Parts.{elements_in, on_some};
 ghost use Rattle.cast_stub.specs.Block.{Block, stop, op_seen};
 ghost use Rattle.cast_stub.specs.Steps.{over, if_present};
-ghost use Rattle.cast_stub.specs.Subs.{deepest};
 ghost use Rattle.stub_machine.specs.Codes.{block_run, code_run, each_run, some_run, called_run};
 ghost use Rattle.stub_machine.specs.Run.{ended, state_of, Runs, Ends, Grown};
-ghost use Rattle.stub_machine.specs.Sending.{most};
+ghost use Rattle.kit_base.specs.Limits.{longest_message};
 
-use crate::errors::{MOST, Stopped};
+use crate::errors::Stopped;
 use crate::parts::{arm_at, part, position};
 use crate::puts::{only_chunk, run_chunk, run_chunks};
 use crate::rows::{run_row_copy, run_row_swap, run_row_wide};
 use crate::single::{run_align, run_ensure, run_ensure_row, run_patch};
 use cast_stub::{Path, SendOp, SendOps, SendSubs};
+use kit_base::limits::LONGEST_MESSAGE;
 use mint::row::Row;
 use mint::value::{Value, Values};
 use raw_buf::SendBuf;
@@ -46,12 +46,12 @@ pub fn run_block(
         (Ends (code_run machine.now calls code.now (seen value.now)) (state_of buf.old) (state_of buf.new)) }
     ensures err { OnErr result
         (Grown (code_run machine.now calls code.now (seen value.now)) (state_of buf.old) (state_of buf.new)) }
-    ensures long { (result ≡ Err Stopped.Long) → most < length buf.new.done }
-    ensures short { OnOk result (0 < length code.now → length buf.new.done ≤ most) }
+    ensures long { (result ≡ Err Stopped.Long) → longest_message < length buf.new.done }
+    ensures short { OnOk result (0 < length code.now → length buf.new.done ≤ longest_message) }
 {
     for op in code.as_slice() {
         run_op(machine, calls, op, value, buf)?;
-        if buf.octets().len() > MOST {
+        if buf.octets().len() > LONGEST_MESSAGE {
             return Err(Stopped::Long);
         }
     }
@@ -74,7 +74,7 @@ fn run_op(
         ≡ ended (block_run machine.now calls r (seen value.now)) (state_of buf.new)) }
     ensures err { OnErr result (Grown (block_run machine.now calls (op_seen op.now stop) (seen value.now))
         (state_of buf.old) (state_of buf.new)) }
-    ensures long { (result ≡ Err Stopped.Long) → most < length buf.new.done }
+    ensures long { (result ≡ Err Stopped.Long) → longest_message < length buf.new.done }
 {
     match op {
         SendOp::Ensure(n) => run_ensure(*n, buf),
@@ -137,7 +137,7 @@ fn run_each(
         (state_of buf.old) (state_of buf.new)) }
     ensures err { OnErr result (Grown (each_run machine.now calls path.now body.now (seen value.now))
         (state_of buf.old) (state_of buf.new)) }
-    ensures long { (result ≡ Err Stopped.Long) → most < length buf.new.done }
+    ensures long { (result ≡ Err Stopped.Long) → longest_message < length buf.new.done }
 {
     let Some(here) = part(path, value) else {
         unreachable!()
@@ -163,7 +163,7 @@ fn run_elements(
     ensures err { OnErr result
         (Grown (on_some (elements_in (seen value.now)) (over (code_run machine.now calls body.now)))
         (state_of buf.old) (state_of buf.new)) }
-    ensures long { (result ≡ Err Stopped.Long) → most < length buf.new.done }
+    ensures long { (result ≡ Err Stopped.Long) → longest_message < length buf.new.done }
 {
     match value {
         Value::Items(values) => run_items(machine, calls, body, values, buf),
@@ -187,7 +187,7 @@ fn run_items(
         (state_of buf.old) (state_of buf.new)) }
     ensures err { OnErr result (Grown (over (code_run machine.now calls body.now) (all_seen values.now))
         (state_of buf.old) (state_of buf.new)) }
-    ensures long { (result ≡ Err Stopped.Long) → most < length buf.new.done }
+    ensures long { (result ≡ Err Stopped.Long) → longest_message < length buf.new.done }
 {
     if let Some((size, puts)) = only_chunk(body) {
         run_chunks(size, puts, machine.head, values, buf);
@@ -217,7 +217,7 @@ fn run_numbers(
     ensures err { OnErr result
         (Grown (over (code_run machine.now calls body.now) (vals_of (map num row.now.numbers)))
         (state_of buf.old) (state_of buf.new)) }
-    ensures long { (result ≡ Err Stopped.Long) → most < length buf.new.done }
+    ensures long { (result ≡ Err Stopped.Long) → longest_message < length buf.new.done }
 {
     for i in 0..row.len() {
         let number = number_at(row, i);
@@ -254,7 +254,7 @@ fn run_some(
         (state_of buf.old) (state_of buf.new)) }
     ensures err { OnErr result (Grown (some_run machine.now calls path.now body.now (seen value.now))
         (state_of buf.old) (state_of buf.new)) }
-    ensures long { (result ≡ Err Stopped.Long) → most < length buf.new.done }
+    ensures long { (result ≡ Err Stopped.Long) → longest_message < length buf.new.done }
 {
     let Some(here) = part(path, value) else {
         unreachable!()
@@ -277,7 +277,7 @@ fn run_present(
         (state_of buf.old) (state_of buf.new)) }
     ensures err { OnErr result (Grown (if_present (code_run machine.now calls body.now) (seen value.now))
         (state_of buf.old) (state_of buf.new)) }
-    ensures long { (result ≡ Err Stopped.Long) → most < length buf.new.done }
+    ensures long { (result ≡ Err Stopped.Long) → longest_message < length buf.new.done }
 {
     match value {
         Value::Opt(None) => Ok(()),
@@ -302,7 +302,7 @@ fn run_called(
         (state_of buf.old) (state_of buf.new)) }
     ensures err { OnErr result (Grown (called_run machine.now calls k path.now (seen value.now))
         (state_of buf.old) (state_of buf.new)) }
-    ensures long { (result ≡ Err Stopped.Long) → most < length buf.new.done }
+    ensures long { (result ≡ Err Stopped.Long) → longest_message < length buf.new.done }
 {
     if calls == 0 {
         unreachable!()
@@ -314,11 +314,4 @@ fn run_called(
         Some(code) => run_block(machine, calls - 1, code, here, buf),
         None => unreachable!(),
     }
-}
-
-/// How many calls may be nested.
-pub fn deepest_call() -> u32
-    ensures { result ≡ deepest }
-{
-    4096
 }

@@ -13,6 +13,7 @@ ghost use Rattle.stub_machine.specs.Run.{state_of, stored_times, Runs, Ends};
 
 use crate::parts::{flag_of, length_of, number_there, part, scaled, tag_of};
 use cast_stub::{HeadField, Path, Put, Puts, SendOp, SendOps};
+use kit_base::Octets;
 use mint::value::{Value, Values};
 use raw_buf::SendBuf;
 use wire_def::{Head, Order};
@@ -218,6 +219,15 @@ fn put_head(buf: &mut SendBuf, off: u32, field: HeadField, width: u32, order: Or
     put_word(buf, off as usize, width, order, &n);
 }
 
+/// Stores octets that a code has.
+#[inline(never)]
+fn put_constant(off: u32, octets: &Octets, buf: &mut SendBuf)
+    requires { off + length octets.now ≤ length buf.old.front }
+    ensures { Writes buf.old buf.new off (Some octets.now) }
+{
+    buf.put_const(off as usize, octets.as_slice());
+}
+
 /// Stores what a put says, of whichever kind.
 #[inline(never)]
 fn run_any(put: &Put, head: &Head, value: &Value, buf: &mut SendBuf)
@@ -236,7 +246,7 @@ fn run_any(put: &Put, head: &Head, value: &Value, buf: &mut SendBuf)
         Put::Short(off, path, name, size, mul) => put_short(
             buf, *off, path, *name, *size, *mul, value,
         ),
-        Put::Const(off, octets) => buf.put_const(*off as usize, octets.as_slice()),
+        Put::Const(off, octets) => put_constant(*off, octets, buf),
         Put::Head(off, field, width, order) => put_head(buf, *off, *field, *width, *order, head),
     }
 }
@@ -251,6 +261,7 @@ fn run_put(put: &Put, head: &Head, value: &Value, buf: &mut SendBuf)
 {
     match put {
         Put::Num(off, path, width, order) => put_number(buf, *off, path, *width, *order, value),
+        Put::Const(off, octets) => put_constant(*off, octets, buf),
         _ => run_any(put, head, value, buf),
     }
 }

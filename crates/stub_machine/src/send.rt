@@ -5,11 +5,13 @@ ghost use Rattle.mint.specs.Values.{seen};
 ghost use Rattle.raw_buf.specs.Buf.{NoneFell};
 ghost use Rattle.cast_stub.specs.Meaning.{meaning, cost, AreCovered};
 ghost use Rattle.cast_stub.specs.Subs.{sent_steps};
-ghost use Rattle.stub_machine.specs.Sending.{most, paid, IsLong};
+ghost use Rattle.kit_base.specs.Limits.{longest_message};
+ghost use Rattle.stub_machine.specs.Sending.{paid, IsLong};
 
-use crate::errors::{MOST, SendErr};
-use crate::operations::{Machine, deepest_call, run_block};
-use cast_stub::SendCode;
+use crate::errors::SendErr;
+use crate::operations::{Machine, run_block};
+use cast_stub::{SendCode, deepest_call};
+use kit_base::limits::LONGEST_MESSAGE;
 use mint::value::Value;
 use raw_buf::SendBuf;
 use wire_def::Head;
@@ -31,9 +33,9 @@ pub fn run_send(
         (option_map (paid buf.old.tally) (cost code.now head.now (seen value.now)) ≡ Some buf.new.tally) }
     ensures spent { OnOk result
         (option_map (paid buf.old.spent) (cost code.now head.now (seen value.now)) ≡ Some buf.new.spent) }
-    ensures short { OnOk result (length buf.new.done ≤ most) }
+    ensures short { OnOk result (length buf.new.done ≤ longest_message) }
     // When each error comes.
-    ensures memory { (result ≡ Err SendErr.NoMemory) → length buf.new.done ≤ most }
+    ensures memory { (result ≡ Err SendErr.NoMemory) → length buf.new.done ≤ longest_message }
     // What stays the same.
     ensures stands { NoneFell buf.old.spent buf.new.spent }
     // When the message is too long.
@@ -45,7 +47,7 @@ pub fn run_send(
         head,
     };
     match run_block(&machine, deepest_call(), &code.ops, value, buf) {
-        _ if buf.octets().len() > MOST => Err(SendErr::Long),
+        _ if buf.octets().len() > LONGEST_MESSAGE => Err(SendErr::Long),
         Ok(()) => Ok(()),
         Err(_) => Err(SendErr::NoMemory),
     }

@@ -5,13 +5,12 @@ ghost use Rattle.mint.specs.Types.{type_at};
 ghost use Rattle.wire_def.specs.declared.encoding.Encoding.{Encoding};
 ghost use Rattle.cast_stub.specs.Got.{received, got_by, IsExact};
 ghost use Rattle.cast_stub.specs.Runs.{Holds};
-ghost use Rattle.cast_stub.specs.Subs.{deepest};
 ghost use Rattle.stub_receiver.specs.Ran.{place_of, IsGot, IsSpelled};
 
 use crate::errors::Halt;
 use crate::machine::Machine;
 use crate::run::run_fresh;
-use cast_stub::RecvCode;
+use cast_stub::{RecvCode, deepest_call};
 use kit_base::NoMemory;
 use mint::table::Mint;
 use mint::value::Value;
@@ -25,13 +24,6 @@ pub enum Got {
     Value(Value),
     /// A test failed.
     Not,
-}
-
-/// How many calls may be nested.
-fn deepest_call() -> u32
-    ensures { result ≡ deepest }
-{
-    4096
 }
 
 /// Receives a value of a node's type from a view, by a code that does not stray there.

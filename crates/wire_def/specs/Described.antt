@@ -21,10 +21,14 @@ allowed Any n = true
 
 -- ---- what is sent
 
--- whether an array has a long descriptor: where its count allows more than 4,095 units
+-- the units of the longest array with a short descriptor
+abbrev pub most_units : ℕ
+most_units = 4095
+
+-- whether an array has a long descriptor: where its count allows more units
 abbrev pub is_long : Count → Scalar → Bool
-is_long (Exactly m) s = nat_lt 4095 (m * units_of s)
-is_long (AtMost m) s = nat_lt 4095 (m * units_of s)
+is_long (Exactly m) s = nat_lt most_units (m * units_of s)
+is_long (AtMost m) s = nat_lt most_units (m * units_of s)
 is_long Any s = true
 
 -- the first word of a long descriptor, as it is sent; of one that is read the low 28 bits are not looked at
@@ -49,8 +53,8 @@ is_marked m = nat_eq (m / 2 ^ 28) 3
 
 -- whether the form, long or short, may be there: for a fixed length only the one that is sent
 abbrev pub takes : Count → Scalar → Bool → Bool
-takes (Exactly m) s true = nat_lt 4095 (m * units_of s)
-takes (Exactly m) s false = nat_le (m * units_of s) 4095
+takes (Exactly m) s true = nat_lt most_units (m * units_of s)
+takes (Exactly m) s false = nat_le (m * units_of s) most_units
 takes _ s long = true
 
 -- a first word of a form that may be there

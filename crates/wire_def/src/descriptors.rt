@@ -3,9 +3,12 @@
 ghost use Rattle.std.specs.Prelude.{◌≡◌, ◌<◌, ◌≤◌};
 ghost use Rattle.mint.specs.Types.{number};
 ghost use Rattle.wire_def.specs.Lone.{scalar_word, short_word, unit_bits, unit_name, units_of};
-ghost use Rattle.wire_def.specs.Described.{is_long, long_words};
+ghost use Rattle.wire_def.specs.Described.{is_long, long_words, most_units};
 
 use mint::kind::{Count, Kind};
+
+/// The units of the longest array with a short descriptor.
+pub const MOST_UNITS: u64 = 4_095;
 
 /// The name of a kind's units.
 pub fn name_of(kind: Kind) -> u32
@@ -45,7 +48,7 @@ pub fn units_in(kind: Kind) -> u32
 
 /// The short descriptor of so many units.
 pub fn short_of(kind: Kind, many: u32) -> u32
-    requires { many < 4096 }
+    requires { many ≤ most_units }
     ensures { result ≡ short_word (unit_name (number kind)) (unit_bits (number kind)) many }
 {
     name_of(kind) + 256 * bits_of(kind) + 65536 * many + 268435456
@@ -70,7 +73,8 @@ pub fn has_long(bound: Count, kind: Kind) -> bool
     ensures { result ≡ is_long bound (number kind) }
 {
     match bound {
-        Count::Exactly(m) | Count::AtMost(m) => u64::from(m) * u64::from(units_in(kind)) > 4095,
+        Count::Exactly(m) | Count::AtMost(m) => u64::from(m) * u64::from(units_in(kind))
+            > MOST_UNITS,
         Count::Any => true,
     }
 }

@@ -1,6 +1,6 @@
 use Rattle.std.proofs.Common.{ℕ, length}
 use Rattle.head_kit.proofs.Exact.{reported_head, reported_fault}
-use Rattle.back_mach.specs.Heads.{Way, reply, format}
+use Rattle.back_mach.specs.Heads.{HeadKind, reply, format}
 use Rattle.back_mach.specs.Reported.{reply_reported}
 use Rattle.back_mach.proofs.Lawful.{heads_are_read}
 use Rattle.back_mach.proofs.reply.read_reply.Goals as goal
@@ -8,11 +8,11 @@ use Rattle.back_mach.proofs.reply.read_reply.Goals as goal
 pub returns-clause-spells : goal.returns-clause-spells
 returns-clause-spells c =
     let n : ℕ = length c.args.message.now in
-    let w : Way = reply c.args.id c.args.arms in
+    let w : HeadKind = reply c.args.id c.args.arms in
     rw c.reply_at.ensures (reported_head (format w n) (heads_are_read w n) reply_reported c.args.message.now c.are_octets.ensures)
 
 pub returns-clause-stops : goal.returns-clause-stops
 returns-clause-stops c =
     let n : ℕ = length c.args.message.now in
-    let w : Way = reply c.args.id c.args.arms in
+    let w : HeadKind = reply c.args.id c.args.arms in
     rw c.reply_at.ensures (reported_fault (format w n) (heads_are_read w n) reply_reported c.args.message.now c.are_octets.ensures)

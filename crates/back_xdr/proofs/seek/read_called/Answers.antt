@@ -1,5 +1,5 @@
 use Rattle.std.proofs.Common.{refl, sym, ap}
-use Rattle.head_kit.specs.declared.called.Naming.{Naming}
+use Rattle.head_kit.specs.declared.call_head.CallTarget.{CallTarget}
 use Rattle.back_xdr.specs.Seeking.{encoding}
 use Rattle.back_xdr.proofs.seek.read_called.Goals as goal
 
@@ -9,7 +9,7 @@ returns-in-Ok-clause-begins c =
     let call = c.in-Ok.call in (
       call,
       begins,
-      ap (λ (n : Naming). record { naming = n; head = call.head; encoding = encoding; used = call.used; minor = 0 })
+      ap (λ (n : CallTarget). record { naming = n; head = call.head; encoding = encoding; used = call.used; minor = 0 })
           (sym c.named.ensures.value),
     )
 

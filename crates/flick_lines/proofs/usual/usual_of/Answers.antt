@@ -3,5 +3,5 @@ use Rattle.flick_lines.proofs.usual.usual_of.Goals as goal
 
 pub returns-in-Ok-clause-request : goal.returns-in-Ok-clause-request
 returns-in-Ok-clause-request c =
-    usual-line c.args.engine.now.binding c.args.line.now c.in-Ok.text.now c.usual_request.result c.in-Ok.ensures.cases
-    (rw c.bound.ensures.value at c.usual_request.ensures.request)
+    usual-line c.args.engine.now.binding c.args.line.now c.in-Ok.text.now c.direct_request.result c.in-Ok.ensures.cases
+    (rw c.bound.ensures.value at c.direct_request.ensures.request)

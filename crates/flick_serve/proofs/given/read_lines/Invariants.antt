@@ -1,6 +1,6 @@
 use Rattle.std.proofs.Common.{◌+◌, ◌≤◌, length}
 use Rattle.std.specs.Option.{option_map_or}
-use Rattle.skeleton.specs.Kept.{IsKept}
+use Rattle.skeleton.specs.TableSkeleton.{IsKept}
 use Rattle.skeleton.proofs.Keeping.{with_table}
 use Rattle.flick_serve.specs.Given.{given_in, lines_of}
 use Rattle.flick_serve.proofs.Reading.{GoesOn, lines_left}

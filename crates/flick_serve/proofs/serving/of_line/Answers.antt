@@ -1,4 +1,4 @@
-use Rattle.skeleton.specs.Kept.{answer_at}
+use Rattle.skeleton.specs.TableSkeleton.{answer_at}
 use Rattle.flick_serve.proofs.Answering.{digits_answer}
 use Rattle.flick_serve.proofs.Paying.{spelled_paid}
 use Rattle.flick_serve.proofs.serving.of_line.Goals as goal

@@ -2,7 +2,7 @@ use Rattle.std.proofs.Common.{◌≡◌, ℕ, List, None, Ok, Some, ap, subst}
 use Rattle.std.specs.Prelude.{IfOk}
 use Rattle.hex.specs.Hex.{encode_lower}
 use Rattle.raw_buf.specs.View.{View}
-use Rattle.skeleton.specs.Kept.{answer_at}
+use Rattle.skeleton.specs.TableSkeleton.{answer_at}
 use Rattle.flick_engine.specs.declared.serve.Served.{Served}
 use Rattle.flick_engine.specs.Serving.{gives, Serves, reply_in}
 use Rattle.flick_serve.proofs.Answering.{reply_answer, silent_answer}

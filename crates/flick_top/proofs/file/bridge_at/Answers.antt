@@ -1,5 +1,5 @@
 use Rattle.std.proofs.Common.{List, ℕ, Some, Err, ap, subst}
-use Rattle.flick_top.specs.Coming.{IsBridgeOf}
+use Rattle.flick_top.specs.Dispatch.{IsBridgeOf}
 use Rattle.flick_top.proofs.Bridging.{bridge-absent, bridge-decides}
 use Rattle.flick_top.proofs.file.bridge_at.Goals as goal
 

@@ -15,5 +15,5 @@ returns-in_ok-second-in-Ok c =
 
 pub returns-in-Err : goal.returns-in-Err
 returns-in-Err c =
-    bridge-said c.args.named.now c.args.to (Some c.args.content.now) c.in_ok-from.field-0 c.in-Err.saying _ c.in-Err.is
+    bridge-said c.args.named.now c.args.to (Some c.args.content.now) c.in_ok-from.field-0 c.in-Err.report _ c.in-Err.is
     c.in_ok-from.ensures refl

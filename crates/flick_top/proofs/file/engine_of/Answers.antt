@@ -1,6 +1,6 @@
 use Rattle.std.proofs.Common.{Some}
 use Rattle.flick_lines.proofs.Options.{if-ok}
-use Rattle.flick_top.specs.Coming.{IsMadeIn}
+use Rattle.flick_top.specs.Dispatch.{IsMadeIn}
 use Rattle.flick_top.specs.File.{Reported, BoundSays, codes_in, plainly}
 use Rattle.flick_top.proofs.file.engine_of.Goals as goal
 

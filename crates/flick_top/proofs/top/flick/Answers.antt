@@ -21,18 +21,18 @@ returns-in-Ok-clause-work g c = λ files reported.
     rw c.number-in-Ok.ensures
     (work-of c.args.words.now files c.into_engine.result c.in-Ok.prepared f _ _ _ _ _ _ _ _ _ _ _ _ c.command_of.ensures.value c.in-Some.is
     c.into_engine.ensures all (c.in-Ok.ensures.comes files reported)
-    (c.perform-status.ensures.done f all c.codes_are_the_operations.ensures))
+    (c.perform-status.ensures.done f all c.codes_match_operations.ensures))
 
 pub returns-in-Ok-clause-reads : goal.returns-in-Ok-clause-reads
 returns-in-Ok-clause-reads g c =
     let (f, all) = c.items_are_answered.ensures in
     rw c.number-in-Ok.ensures
     (needs-items 4 c.args.words.now _ _ c.in-Ok.prepared.feed _ c.command_of.ensures.value c.in-Some.is c.in-Ok.ensures.items
-    (λ none. ((c.perform-status.ensures.done f all c.codes_are_the_operations.ensures).unread none).2))
+    (λ none. ((c.perform-status.ensures.done f all c.codes_match_operations.ensures).unread none).2))
 
 pub returns-in-Ok-clause-exceeds : goal.returns-in-Ok-clause-exceeds
 returns-in-Ok-clause-exceeds g c =
     let (f, all) = c.items_are_answered.ensures in
     rw c.number-in-Ok.ensures
     (needs-items 8 c.args.words.now _ _ c.in-Ok.prepared.feed _ c.command_of.ensures.value c.in-Some.is c.in-Ok.ensures.items
-    (λ none. ((c.perform-status.ensures.done f all c.codes_are_the_operations.ensures).unread none).3))
+    (λ none. ((c.perform-status.ensures.done f all c.codes_match_operations.ensures).unread none).3))

@@ -3,7 +3,7 @@ use Rattle.std.specs.Prelude.{IfSome}
 use Rattle.stub_codes.specs.Stubs.{IsCoded}
 use Rattle.flick_top.specs.declared.job.Job.{Job}
 use Rattle.flick_top.specs.Answer.{IsAnswering}
-use Rattle.flick_top.specs.Coming.{AreAnswered}
+use Rattle.flick_top.specs.Dispatch.{AreAnswered}
 use Rattle.flick_top.specs.Task.{engine_in, engine_with}
 use Rattle.flick_top.proofs.Doing.{after-text, text-alone, text-broken}
 use Rattle.flick_top.proofs.turns.perform.Goals as goal

@@ -1,6 +1,6 @@
 use Rattle.std.proofs.Common.{ℕ, length}
 use Rattle.head_kit.proofs.Exact.{told_head, told_fault}
-use Rattle.giop_head.specs.declared.header.Way.TheVariants.{Asks}
+use Rattle.giop_head.specs.declared.header.HeadKind.TheVariants.{Asks}
 use Rattle.giop_head.specs.Heads.{format}
 use Rattle.giop_head.specs.Reported.{call_seen, call_reported}
 use Rattle.giop_head.proofs.Lawful.{heads_are_read}

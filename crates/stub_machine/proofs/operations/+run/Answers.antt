@@ -9,7 +9,7 @@ use Rattle.cast_stub.specs.Subs.{calls_of}
 use Rattle.stub_machine.proofs.Running.{each_runs, block_fits, block_step, items_fit, items_step, numbers_fit, numbers_step, call_is, call_ends, switch_ends, switch_runs}
 use Rattle.stub_machine.proofs.Growing.{block_broken, block_grown, items_grown, numbers_grown, each_grown, switch_grown, err_map, on_err}
 use Rattle.stub_machine.specs.Run.{Grown}
-use Rattle.stub_machine.specs.Sending.{most}
+use Rattle.kit_base.specs.Limits.{longest_message}
 use Rattle.stub_machine.proofs.Picks.{picked_body, default_steps, nothing_steps, ok_map}
 use Rattle.stub_machine.proofs.operations.+run.Goals as goal
 
@@ -115,11 +115,13 @@ run_op-unreachable-requires-in-None-other t c =
 pub run_block-loop-op-preserved : goal.run_block-loop-op-preserved
 run_block-loop-op-preserved t c = record {
   left = block_step _ _ _ _ _ c.op-item.result _ _ _ c.loop-op.invariant.left c.loop-op-test.true c.op-item.is c.in_ok-run_op.ensures.ok;
-  short = λ h. let short : length c.octets.result.now ≤ most = omega (arith, c.if-octets-gt-MOST.false) in rw c.octets.ensures at short;
+  short = λ h.
+      let short : length c.octets.result.now ≤ longest_message = omega (arith, c.if-octets-gt-LONGEST_MESSAGE.false) in
+      rw c.octets.ensures at short;
 }
 
-pub run_block-returns-then-octets-gt-MOST-clause-err : goal.run_block-returns-then-octets-gt-MOST-clause-err
-run_block-returns-then-octets-gt-MOST-clause-err t c =
+pub run_block-returns-then-octets-gt-LONGEST_MESSAGE-clause-err : goal.run_block-returns-then-octets-gt-LONGEST_MESSAGE-clause-err
+run_block-returns-then-octets-gt-LONGEST_MESSAGE-clause-err t c =
     rw (← c.as_slice-op-items.ensures)
     (block_broken _ _ _ _ _ c.op-item.result _ _ _ c.loop-op.invariant.left c.loop-op-test.true c.op-item.is c.in_ok-run_op.ensures.ok)
 

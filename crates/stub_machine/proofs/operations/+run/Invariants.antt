@@ -3,7 +3,7 @@ use Rattle.mint.specs.Values.{seen, all_seen, vals_of, num}
 use Rattle.cast_stub.specs.Subs.{calls_of}
 use Rattle.cast_stub.specs.Steps.{code_steps, over}
 use Rattle.stub_machine.specs.Run.{state_of}
-use Rattle.stub_machine.specs.Sending.{most}
+use Rattle.kit_base.specs.Limits.{longest_message}
 use Rattle.std.proofs.Common.{◌+◌}
 use Rattle.cast_stub.specs.Block.{op_seen, stop}
 use Rattle.stub_machine.proofs.Running.{Left}
@@ -17,7 +17,7 @@ invariant-run_block-loop-op l = record {
       (code_steps (calls_of l.machine.subs.now l.machine.head.now l.calls) l.machine.head.now l.op-items (seen l.value))
       (code_steps (calls_of l.machine.subs.now l.machine.head.now l.calls) l.machine.head.now (drop l.op-index l.op-items) (seen l.value))
       (state_of l.fn.buf) (state_of l.buf);
-  short : 0 < l.op-index → length l.buf.done ≤ most;
+  short : 0 < l.op-index → length l.buf.done ≤ longest_message;
 }
 
 abbrev pub invariant-run_items-loop-value : goal.invariant-run_items-loop-value

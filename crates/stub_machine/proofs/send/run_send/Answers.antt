@@ -48,8 +48,8 @@ returns-in-Ok-clause-spent c =
     c.deepest_call.ensures c.in-Ok.ensures.ok) in
     s.spent
 
-pub returns-then-octets-gt-MOST-clause-long : goal.returns-then-octets-gt-MOST-clause-long
-returns-then-octets-gt-MOST-clause-long c =
+pub returns-then-octets-gt-LONGEST_MESSAGE-clause-long : goal.returns-then-octets-gt-LONGEST_MESSAGE-clause-long
+returns-then-octets-gt-LONGEST_MESSAGE-clause-long c =
     let code = c.args.code.now in
     let head = c.args.head.now in
     let v = seen c.args.value.now in
@@ -64,8 +64,8 @@ returns-then-octets-gt-MOST-clause-long c =
     c.deepest_call.ensures c.run_block.ensures.err in
     λ is. broken-long c.run_block.result (sent_steps code head v) b after c.requires runs ok err (omega (arith, ap length c.octets.ensures))
 
-pub returns-then-octets-gt-MOST-clause-stands : goal.returns-then-octets-gt-MOST-clause-stands
-returns-then-octets-gt-MOST-clause-stands c =
+pub returns-then-octets-gt-LONGEST_MESSAGE-clause-stands : goal.returns-then-octets-gt-LONGEST_MESSAGE-clause-stands
+returns-then-octets-gt-LONGEST_MESSAGE-clause-stands c =
     let code = c.args.code.now in
     let head = c.args.head.now in
     let v = seen c.args.value.now in

@@ -1,8 +1,0 @@
-use Rattle.flick_engine.proofs.Operating.{are_the_units, are_asked_for}
-use Rattle.flick_engine.proofs.laws.operations_are_the_units.Goals as goal
-
-pub returns-clause-parameters : goal.returns-clause-parameters
-returns-clause-parameters c = are_the_units
-
-pub returns-clause-asked : goal.returns-clause-asked
-returns-clause-asked c = are_asked_for
