@@ -1,5 +1,5 @@
 -- A loop as the first of three ways that is not refused; joins with what may be there.
-use Rattle.std.proofs.Common.{◌≡◌, ℕ, ◌≤◌, ℤ, length, drop, Bool, true, false, List, Option, Some, None, option_map, is_some, Result, Ok, Err, IfOk, refl, sym, subst}
+use Rattle.std.proofs.Common.{◌≡◌, ℕ, ◌≤◌, ℤ, length, drop, Bool, true, false, List, Option, Some, None, option_map, is_some, Result, Ok, Err, IfOk, refl, sym, ◌∙◌, subst}
 use Rattle.mint.specs.declared.node.Node.{Node}
 use Rattle.cast_stub.specs.declared.send.SendOp.{SendOp}
 use Rattle.cast_stub.specs.Block.{Cases, code_seen, cases_seen}

@@ -10,12 +10,12 @@ returns-then-codes-spots c =
 pub loop-i-preserved : goal.loop-i-preserved
 loop-i-preserved c =
     list_one (nodes c.args.walk.now) c.args.codes.now c.args.spots.now c.loop-i.i c.loop-i.invariant _ c.loop-i-test.true
-    (omega (arith, c.loop-i-test.true, c.if-codes-spots.false)) c.in_ok-runs.ensures c.if-runs.false
+    (omega (arith, c.loop-i-test.true, c.if-codes-spots.false)) c.in_ok-runs.ensures c.if-not-runs.false
 
-pub returns-then-runs : goal.returns-then-runs
-returns-then-runs c =
+pub returns-then-not-runs : goal.returns-then-not-runs
+returns-then-not-runs c =
     list_refused (nodes c.args.walk.now) c.args.codes.now c.args.spots.now c.loop-i.i c.loop-i.invariant _ c.loop-i-test.true
-    (omega (arith, c.loop-i-test.true, c.if-codes-spots.false)) c.in_ok-runs.ensures c.if-runs.true
+    (omega (arith, c.loop-i-test.true, c.if-codes-spots.false)) c.in_ok-runs.ensures c.if-not-runs.true
 
 pub returns : goal.returns
 returns c =

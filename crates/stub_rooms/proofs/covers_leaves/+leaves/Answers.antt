@@ -20,7 +20,7 @@ leaves-loop-op-init t c = left_all _ _ _ _
 pub leaves-loop-op-preserved : goal.leaves-loop-op-preserved
 leaves-loop-op-preserved t c =
     left_one _ _ _ _ c.as_slice-op-items.result.now c.loop-op.op-index c.op-item.result _ _ _ c.loop-op-test.true c.op-item.is
-    c.in_ok-inner.ensures.mint c.loop-op.invariant c.in_ok-leave_op.ensures
+    c.in_ok-inner.ensures.mint c.loop-op.invariant c.in_ok-here.ensures
 
 pub leaves-returns : goal.leaves-returns
 leaves-returns t c =
@@ -56,7 +56,7 @@ leave_op-returns-in-RowCopy t c =
     let N = nodes c.args.walk.now in
     leads_if _ _ c.args.op.now (row_copy c.in-RowCopy.path)
     (closed (moved (width_of (row_kind (node_of N (spot_at N c.in-RowCopy.path c.args.spot)))))) _ _
-    (ap op_seen c.in-RowCopy.is ∙ seen-RowCopy c.in-RowCopy.path) (λ r S. refl) c.leave_row-in-RowCopy.ensures
+    (ap op_seen c.in-RowCopy.is ∙ seen-RowCopy c.in-RowCopy.path) (λ r S. refl) c.leave_row.ensures
 
 pub leave_op-returns-in-RowSwap : goal.leave_op-returns-in-RowSwap
 leave_op-returns-in-RowSwap t c =
@@ -68,7 +68,7 @@ leave_op-returns-in-RowSwap t c =
 pub leave_op-returns-in-RowWide : goal.leave_op-returns-in-RowWide
 leave_op-returns-in-RowWide t c =
     leads_if _ _ c.args.op.now (row_wide c.in-RowWide.field-0 c.in-RowWide.field-1) (closed (moved 4)) _ _
-    (ap op_seen c.in-RowWide.is ∙ seen-RowWide c.in-RowWide.field-0 c.in-RowWide.field-1) (λ r S. refl) c.closed-in-RowWide.ensures
+    (ap op_seen c.in-RowWide.is ∙ seen-RowWide c.in-RowWide.field-0 c.in-RowWide.field-1) (λ r S. refl) c.closed.ensures
 
 pub leave_op-returns-in-Each : goal.leave_op-returns-in-Each
 leave_op-returns-in-Each t c =
@@ -76,7 +76,7 @@ leave_op-returns-in-Each t c =
     leads_if _ _ c.args.op.now (each c.in-Each.path (code_seen c.in-Each.body))
     (closed (leaves N (element (node_of N (spot_at N c.in-Each.path c.args.spot))) (code_seen c.in-Each.body))) _ _
     (ap op_seen c.in-Each.is ∙ seen-Each c.in-Each.path c.in-Each.body) (λ r S. refl)
-    (each_shown N _ _ _ _ (c.element_at.ensures ∙ ap (λ s. element (node_of N s)) c.place_at-in-Each.ensures) c.closed-in-Each.ensures)
+    (each_shown N _ _ _ _ _ (c.element_at.ensures ∙ ap (λ s. element (node_of N s)) c.place_at.ensures) c.closed-in-Each.ensures)
 
 pub leave_op-returns-in-Switch : goal.leave_op-returns-in-Switch
 leave_op-returns-in-Switch t c =
@@ -94,7 +94,7 @@ leave_op-returns-in_ok-leaves-in-Some t c =
     let g = leaves N (present (node_of N (spot_at N x.path c.args.spot))) (code_seen x.body) in
     leads_by _ _ c.args.op.now (if_there x.path (code_seen x.body)) (λ S. sum S (g S)) _ _
     (ap op_seen x.is ∙ seen-Some x.path x.body) (λ r S. refl)
-    (sum_shown g _ _ _ (some_shown N _ _ _ _ (c.present_at-inner.ensures ∙ ap (λ s. present (node_of N s)) c.place_at-in-Some.ensures)
+    (sum_shown g _ _ _ (some_shown N _ _ _ _ _ (c.present_at-inner.ensures ∙ ap (λ s. present (node_of N s)) c.place_at-in-Some.ensures)
     c.in_ok-leaves-in-Some.ensures) c.sum.ensures)
 
 pub leave_op-returns-in-Call : goal.leave_op-returns-in-Call
@@ -123,20 +123,20 @@ leave_ways-loop-case-init t c = ways_all _ _ _ _ _ _ c.none-all.ensures
 pub leave_ways-loop-case-preserved : goal.leave_ways-loop-case-preserved
 leave_ways-loop-case-preserved t c =
     ways_one _ _ _ _ c.as_slice-case-items.result.now c.args.last.now c.loop-case.case-index _ _ c.loop-case.invariant c.case-item.result
-    _ _ _ c.loop-case-test.true c.case-item.is c.arm_spot_at-spot.ensures c.in_ok-leaves.ensures c.sum.ensures
+    _ _ _ c.loop-case-test.true c.case-item.is c.arm_spot_at-spot.ensures c.in_ok-leaves.ensures c.sum-all.ensures
 
-pub leave_ways-returns-in_ok-leaves-in-Some-last : goal.leave_ways-returns-in_ok-leaves-in-Some-last
-leave_ways-returns-in_ok-leaves-in-Some-last t c =
+pub leave_ways-returns-in_ok-leaves-in-Some : goal.leave_ways-returns-in_ok-leaves-in-Some
+leave_ways-returns-in_ok-leaves-in-Some t c =
     ways_seen _ _ _ c.as_slice-case-items.result.now c.args.cases.now c.args.last.now _ _ c.as_slice-case-items.ensures
     (ways_last _ _ _ _ c.as_slice-case-items.result.now c.args.last.now c.loop-case.case-index _ _ c.loop-case.invariant
-    c.in-Some-last.body _ _ _ (omega (arith, c.loop-case-test.false)) c.in-Some-last.is (c.rest_spot_at-spot.ensures c.args.last.now)
-    c.in_ok-leaves-in-Some-last.ensures c.sum-in-Some-last.ensures)
+    c.in-Some.body _ _ _ (omega (arith, c.loop-case-test.false)) c.in-Some.is (c.rest_spot_at-spot.ensures c.args.last.now)
+    c.in_ok-leaves-in-Some.ensures c.sum.ensures)
 
 pub leave_ways-returns-in-None : goal.leave_ways-returns-in-None
 leave_ways-returns-in-None t c =
     ways_seen _ _ _ c.as_slice-case-items.result.now c.args.cases.now c.args.last.now _ _ c.as_slice-case-items.ensures
     (ways_end _ _ _ _ c.as_slice-case-items.result.now c.args.last.now c.loop-case.case-index _ _ c.loop-case.invariant _ _
-    (omega (arith, c.loop-case-test.false)) c.in-None.is c.none-in-None.ensures c.sum-in-None.ensures)
+    (omega (arith, c.loop-case-test.false)) c.in-None.is c.none.ensures c.sum-in-None.ensures)
 
 pub leave_lap-returns-in-Octets : goal.leave_lap-returns-in-Octets
 leave_lap-returns-in-Octets t c = lap_moved _ c.args.lap _ _ _ c.in-Octets.is (moved_shown c.in-Octets.width _ _ c.moved.ensures)
@@ -145,16 +145,16 @@ pub leave_lap-returns-in-Body : goal.leave_lap-returns-in-Body
 leave_lap-returns-in-Body t c = lap_led _ c.args.lap _ _ _ c.in-Body.is c.leaves.ensures
 
 pub closed-loop-init : goal.closed-loop-init
-closed-loop-init t c = closing_none _ _ _ _ (size_left _ _ _ c.size.ensures.is refl) refl
+closed-loop-init t c = closing_none _ _ _ _ (size_left c.args.marks.now _ _ c.size-laps.ensures.is refl) refl
 
 pub closed-loop-preserved : goal.closed-loop-preserved
 closed-loop-preserved t c =
     closing_more _ _ _ _ _ _ _ c.loop.invariant c.loop-test.true c.in_ok-more.ensures
-    (sym c.if-is_within.ensures ∙ c.if-is_within.false) c.sum.ensures
+    (sym c.if-is_within.ensures) c.sum-all.ensures
 
 pub closed-returns-then-is_within : goal.closed-returns-then-is_within
 closed-returns-then-is_within t c =
-    closing_within _ _ _ _ _ _ c.loop.invariant c.loop-test.true c.in_ok-more.ensures (sym c.if-is_within.ensures ∙ c.if-is_within.true)
+    closing_within _ _ _ _ _ _ c.loop.invariant c.loop-test.true c.in_ok-more.ensures (sym c.if-is_within.ensures)
 
 pub closed-returns : goal.closed-returns
 closed-returns t c = closing_all _ _ _ _ _ c.loop.invariant (omega (arith, c.loop-test.false))

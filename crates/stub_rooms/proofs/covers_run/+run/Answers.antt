@@ -9,7 +9,7 @@ use Rattle.stub_flat.specs.Residues.{every}
 use Rattle.stub_cover.specs.Rooms.{Rooms, least, on, raised, took, padded, only_room}
 use Rattle.stub_cover.specs.Covers.{run, run_ways}
 use Rattle.stub_rooms.specs.RoomsShown.{Follows, each_of, mark_at, spread}
-use Rattle.stub_rooms.specs.CoversLap.{nodes, turn_of}
+use Rattle.stub_rooms.specs.CoversLap.{nodes, turn_of, reach_of, is_plain_lap}
 use Rattle.stub_rooms.specs.CoversStanding.{credit, credit_of, loop_of, maybe_loop}
 use Rattle.stub_rooms.proofs.RoomsEights.{took_follows}
 use Rattle.stub_rooms.proofs.TurnsJoined.{made_none, made_more, came_back, stopped, all_made, is_back, is_farther, turn_is}
@@ -25,12 +25,12 @@ run-loop-op-init t c = run_all _ _ _ _ _ refl refl
 pub run-loop-op-preserved : goal.run-loop-op-preserved
 run-loop-op-preserved t c =
     run_one _ _ _ c.as_slice-op-items.result.now c.loop-op.op-index c.op-item.result _ _ c.loop-op-test.true c.op-item.is
-    c.in_ok-inner.ensures.mint c.loop-op.invariant _ _ c.if-goes.false c.in_ok-goes.ensures
+    c.in_ok-inner.ensures.mint c.loop-op.invariant _ _ c.if-not-goes.false c.in_ok-goes.ensures
 
-pub run-returns-then-goes : goal.run-returns-then-goes
-run-returns-then-goes t c =
+pub run-returns-then-not-goes : goal.run-returns-then-not-goes
+run-returns-then-not-goes t c =
     run_refused _ _ _ c.as_slice-op-items.result.now c.loop-op.op-index c.op-item.result _ _ c.loop-op-test.true c.op-item.is
-    c.in_ok-inner.ensures.mint c.loop-op.invariant c.args.ops.now _ _ c.if-goes.true c.in_ok-goes.ensures c.as_slice-op-items.ensures
+    c.in_ok-inner.ensures.mint c.loop-op.invariant c.args.ops.now _ _ c.if-not-goes.true c.in_ok-goes.ensures c.as_slice-op-items.ensures
 
 pub run-returns : goal.run-returns
 run-returns t c =
@@ -128,7 +128,7 @@ run_op-returns-in_ok-rooms-in-Some t c =
     (ap op_seen x.is ∙ seen-Some x.path x.body)
     (λ r R. if_there_same R (run N s b None R) (run N c.args.spot r None))
     (subst (λ s. Follows (λ R. option_map (least R) (run N s b None R)) c.args.state.now.rooms c.in_ok-rooms-in-Some.rooms)
-    (c.present_at-inner.ensures ∙ ap (λ s. present (node_of N s)) c.place_at-in-Some.ensures) c.in_ok-rooms-in-Some.ensures)
+    (c.present_at-inner.ensures ∙ ap (λ s. present (node_of N s)) c.place_at.ensures) c.in_ok-rooms-in-Some.ensures)
     c.go_on_bare-in-Some.ensures
 
 pub run_op-returns-in-Call : goal.run_op-returns-in-Call
@@ -147,7 +147,7 @@ pub run_ways-loop-case-preserved : goal.run_ways-loop-case-preserved
 run_ways-loop-case-preserved t c =
     ways_run_one _ _ _ _ c.as_slice-case-items.result.now c.args.last.now c.loop-case.case-index _ _ c.loop-case.invariant
     c.case-item.result _ _ _ c.loop-case-test.true c.case-item.is c.arm_spot_at-spot.ensures
-    (turn_is _ _ _ _ c.in-Some.is c.in_ok-end.ensures) c.least.ensures
+    (turn_is _ _ _ _ c.in-Some.is c.in_ok-end.ensures) c.least-low.ensures
 
 pub run_ways-returns-in-None : goal.run_ways-returns-in-None
 run_ways-returns-in-None t c =
@@ -167,7 +167,7 @@ pub run_ways-returns-in-None-last : goal.run_ways-returns-in-None-last
 run_ways-returns-in-None-last t c =
     ways_run_seen _ _ _ c.as_slice-case-items.result.now c.args.cases.now c.args.last.now _ _ c.as_slice-case-items.ensures
     (ways_run_end _ _ _ _ c.as_slice-case-items.result.now c.args.last.now c.loop-case.case-index _ _ c.loop-case.invariant _ _
-    (omega (arith, c.loop-case-test.false)) c.in-None-last.is c.no_rooms-in-None-last.ensures c.least-in-None-last.ensures)
+    (omega (arith, c.loop-case-test.false)) c.in-None-last.is c.no_rooms.ensures c.least.ensures)
 
 pub run_some-returns : goal.run_some-returns
 run_some-returns t c = there_joined _ _ _ _ c.in_ok-end.ensures c.joined_last.ensures
@@ -179,33 +179,51 @@ run_loop-returns-in-None t c = maybe_none _ _ _ c.in-None.is
 
 pub run_loop-returns-then-is_some : goal.run_loop-returns-then-is_some
 run_loop-returns-then-is_some t c =
-    by_free _ _ c.in-Some.looping _ c.in-Some.is _ (sym c.if-is_some.ensures ∙ c.if-is_some.true) c.in_ok-free.ensures
+    by_free _ _ c.in-Some.looping _ c.in-Some.is _ (sym c.if-is_some.ensures) c.in_ok-free.ensures
 
 pub run_loop-returns-then-is_some-2 : goal.run_loop-returns-then-is_some-2
 run_loop-returns-then-is_some-2 t c =
-    by_bounded _ _ c.in-Some.looping _ c.in-Some.is _ _ (sym c.if-is_some.ensures ∙ c.if-is_some.false) c.in_ok-free.ensures
-    (sym c.if-is_some-2.ensures ∙ c.if-is_some-2.true) c.in_ok-bounded.ensures
+    by_bounded _ _ c.in-Some.looping _ c.in-Some.is _ _ (sym c.if-is_some.ensures) c.in_ok-free.ensures
+    (sym c.if-is_some-2.ensures) c.in_ok-bounded.ensures
 
 pub run_loop-returns : goal.run_loop-returns
 run_loop-returns t c =
-    by_bare _ _ c.in-Some.looping _ c.in-Some.is _ _ _ (sym c.if-is_some.ensures ∙ c.if-is_some.false) c.in_ok-free.ensures
-    (sym c.if-is_some-2.ensures ∙ c.if-is_some-2.false) c.in_ok-bounded.ensures c.run_bare.ensures
+    by_bare _ _ c.in-Some.looping _ c.in-Some.is _ _ _ (sym c.if-is_some.ensures) c.in_ok-free.ensures
+    (sym c.if-is_some-2.ensures) c.in_ok-bounded.ensures c.run_bare.ensures
 
 pub run_free-returns-in-None : goal.run_free-returns-in-None
-run_free-returns-in-None t c = free_none _ _ _ _ _ _ refl c.in-None.is
+run_free-returns-in-None t c =
+    let N = nodes c.args.walk.now in
+    let f = turn_of N c.args.lap in
+    let reach = λ (R : Rooms). reach_of N c.args.lap R in
+    let plain = is_plain_lap c.args.lap in
+    free_none f reach plain plain c.args.unit _ refl c.in-None.is
 
-pub run_free-returns-then-plain : goal.run_free-returns-then-plain
-run_free-returns-then-plain t c = free_ensures _ _ _ _ _ _ c.in_ok-plain.ensures c.in-Some.unit c.in-Some.is c.if-plain.true
+pub run_free-returns-then-not-plain : goal.run_free-returns-then-not-plain
+run_free-returns-then-not-plain t c =
+    let N = nodes c.args.walk.now in
+    let f = turn_of N c.args.lap in
+    let reach = λ (R : Rooms). reach_of N c.args.lap R in
+    let plain = is_plain_lap c.args.lap in
+    free_ensures f reach plain _ c.args.unit _ c.in_ok-plain.ensures c.in-Some.unit c.in-Some.is c.if-not-plain.true
 
-pub run_free-returns-then-enough : goal.run_free-returns-then-enough
-run_free-returns-then-enough t c =
-    free_lacks _ _ _ _ _ _ c.in_ok-plain.ensures c.in-Some.unit _ _ c.in-Some.is c.if-plain.false c.in_ok-reach.ensures
-    c.in_ok-enough.ensures c.if-enough.true
+pub run_free-returns-then-not-enough : goal.run_free-returns-then-not-enough
+run_free-returns-then-not-enough t c =
+    let N = nodes c.args.walk.now in
+    let f = turn_of N c.args.lap in
+    let reach = λ (R : Rooms). reach_of N c.args.lap R in
+    let plain = is_plain_lap c.args.lap in
+    free_lacks f reach plain _ c.args.unit _ c.in_ok-plain.ensures c.in-Some.unit _ _ c.in-Some.is c.if-not-plain.false c.in_ok-reach.ensures
+    c.in_ok-enough.ensures c.if-not-enough.true
 
-pub run_free-returns-in_ok-enough : goal.run_free-returns-in_ok-enough
-run_free-returns-in_ok-enough t c =
-    free_is _ _ _ _ _ _ c.in_ok-plain.ensures c.in-Some.unit _ _ _ c.in-Some.is c.if-plain.false c.in_ok-reach.ensures
-    c.in_ok-enough.ensures c.if-enough.false
+pub run_free-returns : goal.run_free-returns
+run_free-returns t c =
+    let N = nodes c.args.walk.now in
+    let f = turn_of N c.args.lap in
+    let reach = λ (R : Rooms). reach_of N c.args.lap R in
+    let plain = is_plain_lap c.args.lap in
+    free_is f reach plain _ c.args.unit _ c.in_ok-plain.ensures c.in-Some.unit _ _ _ c.in-Some.is c.if-not-plain.false c.in_ok-reach.ensures
+    c.in_ok-enough.ensures c.if-not-enough.false
     (c.spread.ensures ∙ ap (λ (z : Option ℕ). each_of (spread (mark_at c.in_ok-reach.reach) z)) c.lowest.ensures)
 
 pub run_bare-returns-in-Some : goal.run_bare-returns-in-Some
@@ -218,8 +236,8 @@ run_bare-returns-in-None t c =
     bare_refused _ _ true _ c.in_ok-reach.reach _ c.in_ok-reach.ensures c.bare-start.ensures
     (turn_is _ _ _ _ c.in-None.is c.in_ok-end.ensures)
 
-pub run_lap-returns-in_ok-spend : goal.run_lap-returns-in_ok-spend
-run_lap-returns-in_ok-spend t c = lap_octets _ c.args.lap _ _ _ c.in-Octets.is (took_follows c.in-Octets.width _ _ c.took.ensures)
+pub run_lap-returns-in_ok-spend-in-Octets : goal.run_lap-returns-in_ok-spend-in-Octets
+run_lap-returns-in_ok-spend-in-Octets t c = lap_octets _ c.args.lap _ _ _ c.in-Octets.is (took_follows c.in-Octets.width _ _ c.took.ensures)
 
 pub run_lap-returns-in-Body : goal.run_lap-returns-in-Body
 run_lap-returns-in-Body t c = lap_body _ c.args.lap _ _ _ c.in-Body.is c.run.ensures
@@ -230,25 +248,27 @@ run_bounded-returns-in-Some t c = bounded_if _ _ c.in-Some.n _ _ (sym c.few.ensu
 pub run_bounded-returns-in-None : goal.run_bounded-returns-in-None
 run_bounded-returns-in-None t c = bounded_none _ _ _ (sym c.few.ensures ∙ c.in-None.is)
 
-pub suffices_at-returns-then-marked : goal.suffices_at-returns-then-marked
-suffices_at-returns-then-marked t c = unmarked _ _ _ c.mark-marked.ensures c.if-marked.true
+pub suffices_at-returns-then-not-marked : goal.suffices_at-returns-then-not-marked
+suffices_at-returns-then-not-marked t c = unmarked _ _ _ c.mark-marked.ensures c.if-not-marked.true
 
 pub suffices_at-returns : goal.suffices_at-returns
 suffices_at-returns t c =
     let f = turn_of (nodes c.args.walk.now) c.args.lap in
-    marked _ _ _ _ c.mark-marked.ensures c.if-marked.false
-    (c.is_some.ensures ∙ some_shown f (only_room c.args.r c.args.unit) _ _ c.only_room-start.ensures c.in_ok-end.ensures)
+    marked _ _ _ _ c.mark-marked.ensures c.if-not-marked.false
+    (c.is_some.ensures ∙ some_shown f (only_room c.args.r c.args.unit) _ _ (c.only_room-start.ensures ∙ ap (λ n. each_of (only_room c.args.r n)) c.from.ensures) c.in_ok-end.ensures)
 
 pub suffices-loop-r-preserved : goal.suffices-loop-r-preserved
-suffices-loop-r-preserved t c = suffices_more _ _ _ c.loop-r.r _ c.loop-r.invariant c.in_ok-enough.ensures c.if-enough.false
+suffices-loop-r-preserved t c =
+    suffices_more (turn_of (nodes c.args.walk.now) c.args.lap) c.args.unit (mark_at c.args.marks.now) c.loop-r.r _ c.loop-r.invariant c.in_ok-enough.ensures c.if-not-enough.false
 
-pub suffices-returns-then-enough : goal.suffices-returns-then-enough
-suffices-returns-then-enough t c = suffices_lacks _ _ _ c.loop-r.r _ c.loop-r-test.true c.in_ok-enough.ensures c.if-enough.true
+pub suffices-returns-then-not-enough : goal.suffices-returns-then-not-enough
+suffices-returns-then-not-enough t c =
+    suffices_lacks (turn_of (nodes c.args.walk.now) c.args.lap) c.args.unit (mark_at c.args.marks.now) c.loop-r.r _ c.loop-r-test.true c.in_ok-enough.ensures c.if-not-enough.true
 
 pub suffices-returns : goal.suffices-returns
 suffices-returns t c =
     let all : c.loop-r.r ≡ 8 = omega (arith, c.loop-r-test.false) in
-    suffices_all _ _ _ c.loop-r.r c.loop-r.invariant all
+    suffices_all (turn_of (nodes c.args.walk.now) c.args.lap) c.args.unit (mark_at c.args.marks.now) c.loop-r.r c.loop-r.invariant all
 
 pub turns-loop-init : goal.turns-loop-init
 turns-loop-init t c = made_none _ _ _ c.turning_from-turning.ensures
