@@ -1,16 +1,14 @@
 -- What one more operation, one more body and one more lap make of rooms.
-use Rattle.std.proofs.Common.{◌≡◌, ℕ, zero, suc, ◌+◌, ◌-◌, ◌<◌, ◌≤◌, ℤ, Bool, true, false, not, ◌&&◌, ◌||◌, List, [], ◌∷◌, get_or, length, drop, Option, Some, None, Result, Ok, Err, IfOk, option_map, is_some, nat_le, if◌then◌else◌, refl, sym, ap, ◌∙◌, subst, arith}
+use Rattle.std.proofs.Common.{◌≡◌, ℕ, zero, suc, ◌+◌, ◌-◌, ◌<◌, ◌≤◌, ℤ, Bool, true, false, not, ◌&&◌, ◌||◌, List, [], get_or, length, drop, Option, Some, None, Result, Ok, Err, IfOk, option_map, is_some, nat_le, if◌then◌else◌, refl, sym, ap, ◌∙◌, subst, arith}
 use Rattle.std.proofs.Math.ListN.{drop_of_length-le}
-use Rattle.std.proofs.Math.Seq.{drop-cons}
 use Rattle.mint.specs.declared.node.Node.{Node}
 use Rattle.cast_stub.specs.declared.send.SendOp.{SendOp}
 use Rattle.cast_stub.specs.Parts.{on_some}
 use Rattle.cast_stub.specs.Block.{Block, stop, Cases, Piece, op_seen, code_seen, cases_seen}
-use Rattle.stub_flat.specs.Places.{Spot, node_of, arm_spot, rest_spot, greatest}
-use Rattle.stub_flat.specs.Residues.{Residues, every, moved, closed}
-use Rattle.stub_flat.specs.Leaves.{leaves}
-use Rattle.stub_cover.specs.Rooms.{Rooms, took, reached, least, no_rooms, only_room, on, raised, set, least_first}
-use Rattle.stub_cover.specs.Covers.{Turn, Credit, run, run_row, run_ways, looped, is_plain, suffices, free_loop, bounded_loop, bare_loop, or_else, most_turns, turns}
+use Rattle.stub_flat.specs.Places.{Spot, arm_spot, rest_spot}
+use Rattle.stub_flat.specs.Residues.{Residues, every, closed}
+use Rattle.stub_cover.specs.Rooms.{Rooms, reached, least, no_rooms, only_room, on, raised, set, least_first}
+use Rattle.stub_cover.specs.Covers.{Turn, Credit, run, run_ways, suffices, free_loop, bounded_loop, bare_loop, or_else, most_turns, turns}
 use Rattle.stub_rooms.specs.RoomsShown.{each_of, mark_at, room_at, spread, least_of, Shown, Follows}
 use Rattle.stub_rooms.specs.CoversLap.{turn_of}
 use Rattle.stub_rooms.specs.declared.covers_lap.Lap.{Lap}

@@ -1,5 +1,5 @@
 -- Loops as values, over the places that they have.
-use Rattle.std.proofs.Common.{◌≡◌, ℕ, true, List, Option, Some, None, refl, sym, ap, ◌∙◌}
+use Rattle.std.proofs.Common.{◌≡◌, ℕ, true, List, Option, Some, None, sym, ap, ◌∙◌}
 use Rattle.mint.specs.declared.node.Node.{Node}
 use Rattle.cast_stub.specs.Block.{Block}
 use Rattle.stub_flat.specs.Places.{Spot, node_of, element, greatest}

@@ -6,7 +6,7 @@ pub mod CoversPieces
 pub mod RoomsEights
 -- The lesser of rooms, and the least rooms of lists
 pub mod RoomsLesser
--- * Turns one after the other: where rooms come back, all later turns give rooms that were there
+-- * Turns one after the other, joined by the least rooms; where rooms come back, all later turns give rooms that were there
 pub mod TurnsJoined
 -- * What one more operation, one more body and one more lap do to residues
 pub mod CoversLeading

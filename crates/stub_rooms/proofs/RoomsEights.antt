@@ -1,11 +1,10 @@
 -- Lists of eight: what they show is what is at the residues 0 to 7.
-use Rattle.std.proofs.Common.{◌≡◌, ℕ, zero, suc, ◌+◌, ◌-◌, ◌%◌, ◌<◌, ◌≤◌, Bool, true, false, ◌&&◌, List, [], ◌∷◌, get_or, length, Option, Some, None, option_map, nat_le, if◌then◌else◌, refl, sym, ap, ◌∙◌, subst, ◌⊎◌, inl, inr, arith}
+use Rattle.std.proofs.Common.{◌≡◌, ℕ, zero, suc, ◌+◌, ◌-◌, ◌%◌, ◌<◌, ◌≤◌, Bool, true, false, List, [], ◌∷◌, get_or, length, Option, Some, None, option_map, if◌then◌else◌, refl, sym, ap, ◌∙◌, subst, ◌⊎◌, inl, inr, arith}
 use Rattle.std.proofs.lemmas.Bool.{cases_lt}
-use Rattle.wire_def.specs.Scalars.{gap}
 use Rattle.cast_stub.specs.Parts.{on_some}
 use Rattle.cast_stub.specs.Steps.{is_width}
-use Rattle.stub_flat.specs.Residues.{Residues, moved, aligned, size_first}
-use Rattle.stub_cover.specs.Rooms.{Rooms, lesser, least, least_first, no_rooms, only_room, has, have_first, took, padded, padded_one, padded_first}
+use Rattle.stub_flat.specs.Residues.{Residues, moved, aligned}
+use Rattle.stub_cover.specs.Rooms.{Rooms, least, have_first, took, padded, padded_one, padded_first}
 use Rattle.stub_rooms.specs.RoomsShown.{each_of, mark_at, room_at, joined, Shown, Follows}
 
 -- the value at a residue
@@ -107,21 +106,6 @@ padded_more k n R x y z e f g =
     ∙ joined_same (padded_one k n (R k)) (padded_first k n R)
     ∙ ap (λ i. option_map each_of (padded_first i n R)) (suc_is k)
 
--- one room more
-pub have_more : (k n : ℕ) (R : Rooms) (x : Option ℕ) (h b z : Bool) → x ≡ R k → h ≡ has n x → b ≡ have_first k n R → z ≡ (h && b)
-    → z ≡ have_first (k + 1) n R
-have_more k n R x h b z e f before is =
-    is ∙ ap (λ (t : Bool). t && b) (f ∙ ap (has n) e) ∙ ap (λ (t : Bool). has n (R k) && t) before
-    ∙ ap (λ j. have_first j n R) (suc_is k)
-
-pub low_more : (k : ℕ) (R : Rooms) (x l z : Option ℕ) → x ≡ R k → l ≡ least_first k R → z ≡ lesser x l → z ≡ least_first (k + 1) R
-low_more k R x l z e before is =
-    is ∙ ap (λ (t : Option ℕ). lesser t l) e ∙ ap (lesser (R k)) before ∙ ap (λ j. least_first j R) (suc_is k)
-
-pub size_more : (k : ℕ) (S : Residues) (c n : ℕ) → c ≡ (if S k then 1 else 0) → n ≡ size_first k S → c + n ≡ size_first (k + 1) S
-size_more k S c n e before =
-    ap (λ j. j + n) e ∙ ap (λ j. (if S k then 1 else 0) + j) before ∙ ap (λ j. size_first j S) (suc_is k)
-
 -- octets that each room has, and octets that one has not
 abbrev lowered : ℕ → Rooms → Rooms
 lowered n R r = option_map (λ x. x - n) (R ((r + 8 - n % 8) % 8))
@@ -134,26 +118,6 @@ took_there n a y b e h is =
 pub took_none : (n : ℕ) (a : List (Option ℕ)) (b : Bool) → b ≡ have_first 8 n (room_at a) → b ≡ false
     → None ≡ option_map each_of (took n (room_at a))
 took_none n a b e h = ap (λ (t : Bool). option_map each_of (if t then Some (lowered n (room_at a)) else None)) (sym h ∙ e)
-
--- zeros from one residue
-abbrev pub padded_room : ℕ → ℕ → ℕ → Bool → Option (List (Option ℕ))
-padded_room r g x b = option_map each_of (if b then Some (only_room ((r + g) % 8) (x - g)) else None)
-
-pub padded_fits : (r g x : ℕ) (y : List (Option ℕ)) (b : Bool) → b ≡ nat_le g x → b ≡ true
-    → y ≡ each_of (only_room ((r + g) % 8) (x - g)) → Some y ≡ padded_room r g x (nat_le g x)
-padded_fits r g x y b e h is = ap Some is ∙ ap (padded_room r g x) (sym h ∙ e)
-
-pub padded_lacks : (r g x : ℕ) (b : Bool) → b ≡ nat_le g x → b ≡ false → None ≡ padded_room r g x (nat_le g x)
-padded_lacks r g x b e h = ap (padded_room r g x) (sym h ∙ e)
-
-pub padded_none : (k a : ℕ) (x : Option ℕ) (y : List (Option ℕ)) → x ≡ None → y ≡ each_of no_rooms
-    → Some y ≡ option_map each_of (padded_one k a x)
-padded_none k a x y e is = ap Some is ∙ ap (λ (z : Option ℕ). option_map each_of (padded_one k a z)) (sym e)
-
-pub padded_some : (k a v g : ℕ) (x : Option ℕ) (y : Option (List (Option ℕ))) → x ≡ Some v → g ≡ gap k a
-    → y ≡ padded_room k g v (nat_le g v) → y ≡ option_map each_of (padded_one k a x)
-padded_some k a v g x y e same is =
-    is ∙ ap (λ n. padded_room k n v (nat_le n v)) same ∙ ap (λ (z : Option ℕ). option_map each_of (padded_one k a z)) (sym e)
 
 -- ---- the same rooms
 

@@ -1,7 +1,7 @@
 -- The lesser of rooms, and the least rooms of lists.
-use Rattle.std.proofs.Common.{◌≡◌, ℕ, ◌+◌, min, Bool, true, false, ◌||◌, List, [], ◌∷◌, Option, Some, None, refl, sym, ap, ◌∙◌, arith}
+use Rattle.std.proofs.Common.{◌≡◌, ℕ, min, Bool, true, false, ◌||◌, List, Option, Some, None, refl, sym, ap, ◌∙◌, arith}
 use Rattle.stub_flat.specs.Residues.{Residues, sum}
-use Rattle.stub_cover.specs.Rooms.{Rooms, lesser, least, no_rooms}
+use Rattle.stub_cover.specs.Rooms.{Rooms, lesser, least}
 use Rattle.stub_rooms.specs.RoomsShown.{each_of, mark_at, room_at, least_of}
 use Rattle.stub_rooms.proofs.RoomsEights.{eight_same, each_same}
 

@@ -1,5 +1,4 @@
--- Turns one after the other, of which some are made, joined by the least rooms; where rooms come back, all later turns give rooms
--- that were there.
+-- Turns one after the other, joined by the least rooms; where rooms come back, all later turns give rooms that were there.
 use Rattle.std.proofs.Common.{◌≡◌, ℕ, zero, suc, ◌+◌, ◌-◌, ◌<◌, ◌≤◌, Bool, true, false, List, Option, Some, None, option_map, refl, sym, ap, ◌∙◌, subst, ◌⊎◌, inl, inr, arith, zero-add}
 use Rattle.std.proofs.lemmas.Bool.{cases_lt}
 use Rattle.cast_stub.specs.Parts.{on_some}

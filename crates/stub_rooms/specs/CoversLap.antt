@@ -1,5 +1,5 @@
 -- The lap of a loop, and what one more operation does to residues.
-use Rattle.std.specs.Prelude.{ℕ, Bool, true, List, Option, None}
+use Rattle.std.specs.Prelude.{Bool, true, List, None}
 use Rattle.mint.specs.declared.node.Node.{Node}
 use Rattle.cast_stub.specs.Block.{Block, Piece, code_seen}
 use Rattle.stub_flat.specs.Places.{Spot}

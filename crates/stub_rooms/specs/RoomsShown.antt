@@ -1,5 +1,5 @@
 -- Sets of residues and rooms as lists of eight.
-use Rattle.std.specs.Prelude.{◌≡◌, ℕ, Bool, false, List, [], ◌∷◌, Option, Some, None, option_map, slice_index_or, if◌then◌else◌}
+use Rattle.std.specs.Prelude.{◌≡◌, ℕ, Bool, false, List, [], ◌∷◌, Option, None, option_map, slice_index_or, if◌then◌else◌}
 use Rattle.cast_stub.specs.Parts.{on_some}
 use Rattle.stub_flat.specs.Residues.{Residues}
 use Rattle.stub_cover.specs.Rooms.{Rooms, least}

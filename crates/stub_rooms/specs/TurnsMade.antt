@@ -1,5 +1,5 @@
 -- Turns one after the other, until rooms come back.
-use Rattle.std.specs.Prelude.{◌≡◌, ℕ, ◌+◌, Bool, true, false, List, Option, MatchBool, ◌⊎◌}
+use Rattle.std.specs.Prelude.{◌≡◌, ℕ, ◌+◌, Bool, List, Option, MatchBool, ◌⊎◌}
 use Rattle.stub_cover.specs.Rooms.{no_rooms}
 use Rattle.stub_rooms.specs.RoomsShown.{each_of, least_of}
 use Rattle.stub_rooms.specs.declared.turns.Turning.{Turning}

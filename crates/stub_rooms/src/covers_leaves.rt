@@ -17,7 +17,8 @@ use cast_stub::{Path, SendCases, SendOp, SendOps};
 use kit_base::NoMemory;
 use mint::table::NodeId;
 use stub_places::{
-    arm_spot_at, element_at, is_width, present_at, rest_spot_at, row_kind_at, width_of};
+    arm_spot_at, element_at, is_width, present_at, rest_spot_at, row_kind_at, width_of,
+};
 
 /// Behind operations over a place.
 #[cycle(leaves)]
@@ -59,10 +60,7 @@ fn leave_op(
         SendOp::RowSwap(path) => leave_row(path, spot, marks, walk, left),
         SendOp::RowWide(_, _) => closed(Lap::Octets(4), marks, walk, left),
         SendOp::Each(path, body) => {
-            let lap = Lap::Body(
-                body,
-                element_at(walk.mint, place_at(path, spot, walk)),
-            );
+            let lap = Lap::Body(body, element_at(walk.mint, place_at(path, spot, walk)));
             closed(lap, marks, walk, left)
         }
         SendOp::Switch(path, cases, last) => {

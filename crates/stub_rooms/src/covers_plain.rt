@@ -71,11 +71,7 @@ fn are_plain(
 }
 
 /// Whether a turn neither ensures nor calls.
-pub(crate) fn is_plain_lap(
-    lap: Lap<'_>,
-    walk: &Walk<'_>,
-    left: &mut u64,
-) -> Result<bool, NoMemory>
+pub(crate) fn is_plain_lap(lap: Lap<'_>, walk: &Walk<'_>, left: &mut u64) -> Result<bool, NoMemory>
     ensures { IfOk result (λ b. b ≡ is_plain_lap lap.entry) }
 {
     match lap {

@@ -1,4 +1,4 @@
-use Rattle.std.proofs.Common.{◌≡◌, drop, map, length}
+use Rattle.std.proofs.Common.{◌≡◌, drop, map}
 use Rattle.cast_stub.specs.Block.{code_seen}
 use Rattle.stub_cover.specs.Covers.{list_runs}
 use Rattle.stub_rooms.specs.CoversLap.{nodes}

@@ -1,13 +1,11 @@
-use Rattle.std.proofs.Common.{◌≡◌, List, Bool, if◌then◌else◌, ap, ◌∙◌, sym, subst, refl, arith}
-use Rattle.mint.specs.declared.node.Node.{Node}
+use Rattle.std.proofs.Common.{if◌then◌else◌, ap, ◌∙◌, sym, refl, arith}
 use Rattle.cast_stub.specs.Steps.{is_width}
 use Rattle.cast_stub.specs.Block.{ensure, ensure_row, align, chunk, row_copy, row_swap, row_wide, each, switch, if_there, call, patch, op_seen, code_seen, cases_seen}
 use Rattle.cast_stub.proofs.Pieces.{seen-Ensure, seen-EnsureRow, seen-Align, seen-Chunk, seen-RowCopy, seen-RowSwap, seen-RowWide, seen-Each, seen-Switch, seen-Some, seen-Call, seen-Patch}
 use Rattle.stub_flat.specs.Places.{node_of, spot_at, element, present, row_kind}
 use Rattle.stub_flat.specs.Residues.{every, sum, moved, aligned, closed}
 use Rattle.stub_flat.specs.Leaves.{leaves, ways_leave, width_of}
-use Rattle.stub_rooms.specs.RoomsShown.{Shown}
-use Rattle.stub_rooms.specs.CoversLap.{nodes, leaves_of}
+use Rattle.stub_rooms.specs.CoversLap.{nodes}
 use Rattle.stub_rooms.proofs.RoomsEights.{moved_shown, kept_shown}
 use Rattle.stub_rooms.proofs.CoversLeading.{leads_by, leads_if, each_shown, some_shown, ways_at_place, row_shown, size_left, sum_shown, every_shown, left_all, left_one, left_none, ways_all, ways_one, ways_last, ways_end, ways_seen, closing_none, closing_within, closing_more, closing_all, lap_moved, lap_led}
 use Rattle.stub_rooms.proofs.covers_leaves.+leaves.Goals as goal

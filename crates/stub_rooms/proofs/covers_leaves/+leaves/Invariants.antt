@@ -1,4 +1,4 @@
-use Rattle.std.proofs.Common.{◌≡◌, ◌+◌, ◌*◌, drop}
+use Rattle.std.proofs.Common.{◌+◌, ◌*◌, drop}
 use Rattle.cast_stub.specs.Block.{cases_seen}
 use Rattle.stub_flat.specs.Places.{node_of}
 use Rattle.stub_rooms.specs.CoversLap.{nodes, leaves_of}

@@ -1,4 +1,4 @@
-use Rattle.std.proofs.Common.{◌≡◌, ap, ◌∙◌, sym, refl, arith}
+use Rattle.std.proofs.Common.{ap, ◌∙◌, refl, arith}
 use Rattle.cast_stub.specs.Block.{each, switch, if_there, op_seen, code_seen, cases_seen}
 use Rattle.cast_stub.proofs.Pieces.{seen-Each, seen-Switch, seen-Some}
 use Rattle.stub_cover.specs.Covers.{is_plain, are_plain}

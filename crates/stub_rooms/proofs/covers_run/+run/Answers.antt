@@ -1,5 +1,4 @@
-use Rattle.std.proofs.Common.{◌≡◌, ℕ, List, Bool, true, false, Option, Some, None, option_map, if◌then◌else◌, ap, ◌∙◌, sym, subst, refl, arith}
-use Rattle.mint.specs.declared.node.Node.{Node}
+use Rattle.std.proofs.Common.{◌≡◌, ℕ, List, Bool, true, Option, Some, None, option_map, if◌then◌else◌, ap, ◌∙◌, sym, subst, refl, arith}
 use Rattle.cast_stub.specs.Parts.{on_some}
 use Rattle.cast_stub.specs.Steps.{is_width}
 use Rattle.cast_stub.specs.Block.{ensure, ensure_row, align, chunk, row_copy, row_swap, row_wide, each, switch, if_there, call, patch, op_seen, code_seen, cases_seen}
@@ -10,10 +9,10 @@ use Rattle.stub_cover.specs.Rooms.{Rooms, least, on, raised, took, padded, only_
 use Rattle.stub_cover.specs.Covers.{run, run_ways}
 use Rattle.stub_rooms.specs.RoomsShown.{Follows, each_of, mark_at, spread}
 use Rattle.stub_rooms.specs.CoversLap.{nodes, turn_of, reach_of, is_plain_lap}
-use Rattle.stub_rooms.specs.CoversStanding.{credit, credit_of, loop_of, maybe_loop}
+use Rattle.stub_rooms.specs.CoversStanding.{credit, loop_of, maybe_loop}
 use Rattle.stub_rooms.proofs.RoomsEights.{took_follows}
 use Rattle.stub_rooms.proofs.TurnsJoined.{made_none, made_more, came_back, stopped, all_made, is_back, is_farther, turn_is}
-use Rattle.stub_rooms.proofs.CoversGoing.{maybe_none, maybe_given, steps_by, steps_seen, raised_follows, bare_follows, kept_follows, if_there_same, there_follows, there_none, run_all, run_one, run_refused, run_none, ways_run, ways_run_one, ways_refused, ways_run_end, ways_run_last, ways_last_refused, ways_run_seen, follows_or, follows_else, free_no_unit, free_not_plain, free_short, free_given, bare_given, bare_refused, bounded_none, bounded_if, suffices_more, suffices_lacks, suffices_all, unmarked, marked, some_shown, lap_octets, lap_body}
+use Rattle.stub_rooms.proofs.CoversGoing.{maybe_none, steps_by, steps_seen, raised_follows, bare_follows, kept_follows, if_there_same, run_all, run_one, run_refused, run_none, ways_run, ways_run_one, ways_refused, ways_run_end, ways_run_seen, bare_given, bare_refused, bounded_none, bounded_if, suffices_more, suffices_lacks, suffices_all, unmarked, marked, some_shown, lap_octets, lap_body}
 use Rattle.stub_rooms.proofs.CoversLooped.{there_joined, ways_last_joined, by_free, by_bounded, by_bare, free_none, free_ensures, free_lacks, free_is}
 use Rattle.stub_rooms.proofs.covers_run.+run.Goals as goal
 
@@ -213,8 +212,8 @@ run_free-returns-then-not-enough t c =
     let f = turn_of N c.args.lap in
     let reach = λ (R : Rooms). reach_of N c.args.lap R in
     let plain = is_plain_lap c.args.lap in
-    free_lacks f reach plain _ c.args.unit _ c.in_ok-plain.ensures c.in-Some.unit _ _ c.in-Some.is c.if-not-plain.false c.in_ok-reach.ensures
-    c.in_ok-enough.ensures c.if-not-enough.true
+    free_lacks f reach plain _ c.args.unit _ c.in_ok-plain.ensures c.in-Some.unit _ _ c.in-Some.is c.if-not-plain.false
+    c.in_ok-reach.ensures c.in_ok-enough.ensures c.if-not-enough.true
 
 pub run_free-returns : goal.run_free-returns
 run_free-returns t c =
@@ -222,8 +221,8 @@ run_free-returns t c =
     let f = turn_of N c.args.lap in
     let reach = λ (R : Rooms). reach_of N c.args.lap R in
     let plain = is_plain_lap c.args.lap in
-    free_is f reach plain _ c.args.unit _ c.in_ok-plain.ensures c.in-Some.unit _ _ _ c.in-Some.is c.if-not-plain.false c.in_ok-reach.ensures
-    c.in_ok-enough.ensures c.if-not-enough.false
+    free_is f reach plain _ c.args.unit _ c.in_ok-plain.ensures c.in-Some.unit _ _ _ c.in-Some.is c.if-not-plain.false
+    c.in_ok-reach.ensures c.in_ok-enough.ensures c.if-not-enough.false
     (c.spread.ensures ∙ ap (λ (z : Option ℕ). each_of (spread (mark_at c.in_ok-reach.reach) z)) c.lowest.ensures)
 
 pub run_bare-returns-in-Some : goal.run_bare-returns-in-Some
@@ -255,20 +254,26 @@ pub suffices_at-returns : goal.suffices_at-returns
 suffices_at-returns t c =
     let f = turn_of (nodes c.args.walk.now) c.args.lap in
     marked _ _ _ _ c.mark-marked.ensures c.if-not-marked.false
-    (c.is_some.ensures ∙ some_shown f (only_room c.args.r c.args.unit) _ _ (c.only_room-start.ensures ∙ ap (λ n. each_of (only_room c.args.r n)) c.from.ensures) c.in_ok-end.ensures)
+    (c.is_some.ensures ∙ some_shown f (only_room c.args.r c.args.unit) _ _
+    (c.only_room-start.ensures ∙ ap (λ n. each_of (only_room c.args.r n)) c.from.ensures) c.in_ok-end.ensures)
 
 pub suffices-loop-r-preserved : goal.suffices-loop-r-preserved
 suffices-loop-r-preserved t c =
-    suffices_more (turn_of (nodes c.args.walk.now) c.args.lap) c.args.unit (mark_at c.args.marks.now) c.loop-r.r _ c.loop-r.invariant c.in_ok-enough.ensures c.if-not-enough.false
+    let f = turn_of (nodes c.args.walk.now) c.args.lap in
+    suffices_more f c.args.unit (mark_at c.args.marks.now) c.loop-r.r _ c.loop-r.invariant c.in_ok-enough.ensures
+    c.if-not-enough.false
 
 pub suffices-returns-then-not-enough : goal.suffices-returns-then-not-enough
 suffices-returns-then-not-enough t c =
-    suffices_lacks (turn_of (nodes c.args.walk.now) c.args.lap) c.args.unit (mark_at c.args.marks.now) c.loop-r.r _ c.loop-r-test.true c.in_ok-enough.ensures c.if-not-enough.true
+    let f = turn_of (nodes c.args.walk.now) c.args.lap in
+    suffices_lacks f c.args.unit (mark_at c.args.marks.now) c.loop-r.r _ c.loop-r-test.true c.in_ok-enough.ensures
+    c.if-not-enough.true
 
 pub suffices-returns : goal.suffices-returns
 suffices-returns t c =
     let all : c.loop-r.r ≡ 8 = omega (arith, c.loop-r-test.false) in
-    suffices_all (turn_of (nodes c.args.walk.now) c.args.lap) c.args.unit (mark_at c.args.marks.now) c.loop-r.r c.loop-r.invariant all
+    let f = turn_of (nodes c.args.walk.now) c.args.lap in
+    suffices_all f c.args.unit (mark_at c.args.marks.now) c.loop-r.r c.loop-r.invariant all
 
 pub turns-loop-init : goal.turns-loop-init
 turns-loop-init t c = made_none _ _ _ c.turning_from-turning.ensures

@@ -13,4 +13,5 @@ returns c =
 pub loop-r-preserved : goal.loop-r-preserved
 loop-r-preserved c =
     padded_more c.loop-r.r c.args.a (room_at c.args.rooms.now) c.padded_one.result c.loop-r.all c.joined-all.result
-    (c.padded_one.ensures ∙ ap (λ x. option_map each_of (the_one c.loop-r.r c.args.a x)) c.room.ensures) c.loop-r.invariant c.joined-all.ensures
+    (c.padded_one.ensures ∙ ap (λ x. option_map each_of (the_one c.loop-r.r c.args.a x)) c.room.ensures) c.loop-r.invariant
+    c.joined-all.ensures
