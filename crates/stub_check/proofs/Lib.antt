@@ -1,0 +1,4 @@
+-- The proofs, each after those that it uses; * marks those that the proofs of functions use.
+
+-- * A code that gets a yes appends what the kept one does, inside ensured space
+pub mod AsGood
