@@ -9,7 +9,7 @@ sources.sys.setrecursionlimit(100_000)
 NAMES = 2  # definitions of a file that are named
 STATEMENT, OUTSIDE = "crates/flick_top/specs/Statement.antt", "crates/flick_top/specs/Outside.antt"
 CALL = "crates/flick_top/src/top.rt"
-VERBS, COMING, ANSWER = "crates/flick_lines/specs/Verbs.antt", "crates/flick_top/specs/Coming.antt", "crates/flick_top/specs/Answer.antt"
+VERBS, DISPATCH, ANSWER = "crates/flick_lines/specs/Verbs.antt", "crates/flick_top/specs/Dispatch.antt", "crates/flick_top/specs/Answer.antt"
 FRONTS, FILE = "crates/flick_top/specs/Fronts.antt", "crates/flick_top/specs/File.antt"
 # What is asked, and the definitions that say it: the file that names each, and its name.
 ASKED = {
@@ -17,17 +17,17 @@ ASKED = {
     "what `unmarshal` answers": [(VERBS, "IsUnmarshalled")],
     "what `reply` answers": [(VERBS, "IsReplied")],
     "what `unreply` answers": [(VERBS, "IsUnreplied")],
-    "what `serve` answers": [(COMING, "FileGives"), (ANSWER, "IsServed")],
-    "what `show` writes": [(COMING, "show_text")],
-    "what `make` writes": [(COMING, "make_text")],
-    "what `stubs` writes": [(COMING, "stubs_text")],
+    "what `serve` answers": [(DISPATCH, "FileGives"), (ANSWER, "IsServed")],
+    "what `show` writes": [(DISPATCH, "show_text")],
+    "what `make` writes": [(DISPATCH, "make_text")],
+    "what `stubs` writes": [(DISPATCH, "stubs_text")],
     "the tokens of a file, or its first fault": [(FRONTS, "AreTokens"), (FRONTS, "IsFirstFault")],
     "the unit of an ONC file, or its first fault": [(FRONTS, "OncTokensSay")],
     "the unit of a CORBA file, or its first fault": [(FRONTS, "CorbaTokensSay")],
     "the unit of a MIG file, or its first fault": [(FRONTS, "MigTokensSay")],
     "the unit over a back end, or why it is refused": [(FILE, "bind_fault"), (FILE, "IsOver")],
-    "what `count` answers": [(VERBS, "IsCounted"), (COMING, "counted_text")],
-    "what messages cost, and what the buffer holds": [(ANSWER, "IsSentTo"), (ANSWER, "IsServeSent"), (COMING, "all_sent")],
+    "what `count` answers": [(VERBS, "IsCounted"), (DISPATCH, "counted_text")],
+    "what messages cost, and what the buffer holds": [(ANSWER, "IsSentTo"), (ANSWER, "IsServeSent"), (DISPATCH, "all_sent")],
 }
 HEAD = """# What has to be believed
 

@@ -45,7 +45,7 @@ def content(path):
 
 
 def usage(_):
-    text = re.search(r'pub const USAGE: &\[u8\] = b"(.*?)";', content("crates/flick_top/src/saying.rt"), re.S)[1]
+    text = re.search(r'pub const USAGE: &\[u8\] = b"(.*?)";', content("crates/flick_top/src/report.rt"), re.S)[1]
     return ["```", *re.sub(r"\\\n", "", text).replace("\\n", "\n").replace("\\x20", " ").replace('\\"', '"').rstrip("\n").split("\n"), "```"]
 
 

@@ -1,7 +1,7 @@
 //! Why the names of a file are not resolved, for every front end.
 
 ghost use Rattle.std.specs.Prelude.{◌≡◌};
-ghost use Rattle.aoi.specs.declared.faults.NameFault.TheVariants.{NoMemory as WantOfMemory};
+ghost use Rattle.aoi.specs.declared.faults.NameFault.TheVariants.{NoMemory as OutOfMemory};
 
 use kit_base::NoMemory;
 use thiserror::Error;
@@ -58,7 +58,7 @@ pub struct NameErr {
 }
 
 impl From<NoMemory> for NameErr {
-    ghost from_gives = { λ _ e. e.fault ≡ WantOfMemory };
+    ghost from_gives = { λ _ e. e.fault ≡ OutOfMemory };
 
     fn from(_: NoMemory) -> NameErr {
         NameErr {

@@ -3,7 +3,7 @@
 ghost use Rattle.std.specs.Prelude.{◌≡◌, ◌<◌, ◌≤◌, ◌^◌, ◌⊎◌, ◌↔◌, [], ◌∷◌, ◌++◌, length, true, false, IfOk, OnOk, OnErr};
 ghost use Rattle.kit_base.specs.Limits.{most_interfaces, most_operations};
 ghost use Rattle.aoi.specs.Units.{is_twice, AreApart};
-ghost use Rattle.aoi.specs.declared.units.UnitErr.TheVariants.{NoMemory as WantOfMemory};
+ghost use Rattle.aoi.specs.declared.units.UnitErr.TheVariants.{NoMemory as OutOfMemory};
 
 use crate::{Interface, Interfaces, Ty, Types};
 use kit_base::limits::{MOST_INTERFACES, MOST_OPERATIONS};
@@ -23,7 +23,7 @@ pub enum UnitErr {
 }
 
 impl From<NoMemory> for UnitErr {
-    ghost from_gives = { λ _ e. e ≡ WantOfMemory };
+    ghost from_gives = { λ _ e. e ≡ OutOfMemory };
 
     fn from(_: NoMemory) -> UnitErr {
         UnitErr::NoMemory

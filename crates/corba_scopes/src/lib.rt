@@ -6,13 +6,13 @@ mod around;
 mod clashes;
 mod consts;
 mod finding;
-mod lines;
 mod meanings;
+mod orders;
 mod state;
 
 pub use around::{Env, full_name, innermost, inside, of_file, prefix_of};
 pub use clashes::{lower_of, refuse_fault};
 pub use idl_names::{Tag, Use};
-pub use lines::Line;
 pub use meanings::{Constant, Entry, Meaning};
+pub use orders::BaseOrder;
 pub use state::Scopes;

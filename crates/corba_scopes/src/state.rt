@@ -7,8 +7,8 @@ ghost use Rattle.corba_scopes.specs.Finding.{with_base, with_line};
 
 use crate::around::full_name;
 use crate::clashes::refuse_fault;
-use crate::lines::{Line, Lines};
 use crate::meanings::Meaning;
+use crate::orders::{BaseOrder, BaseOrders};
 use aoi::{NameErr, NameFault};
 use idl_names::{Names, Table};
 use kit_base::NoMemory;
@@ -30,7 +30,7 @@ pub struct Scopes {
     /// The same names with the last identifier in lower case.
     folded: Names,
     /// The lines of interfaces.
-    lines: Lines,
+    lines: BaseOrders,
 }
 
 impl Model for Scopes {
@@ -50,7 +50,7 @@ impl Scopes {
         Scopes {
             table: Table::new(alloc),
             folded: Names::new(alloc),
-            lines: Lines::new(alloc),
+            lines: BaseOrders::new(alloc),
         }
     }
 
@@ -62,7 +62,7 @@ impl Scopes {
     }
 
     /// The lines of interfaces.
-    pub(crate) fn lines(&self) -> &Lines
+    pub(crate) fn lines(&self) -> &BaseOrders
         ensures { result.now ≡ self.now.lines }
     {
         &self.lines
@@ -141,7 +141,7 @@ impl Scopes {
     }
 
     /// Puts the scopes of one more base after those of an interface's line.
-    pub fn add_base(&self, alloc: Global, base: &[u8], line: &mut Line) -> Result<(), NoMemory>
+    pub fn add_base(&self, alloc: Global, base: &[u8], line: &mut BaseOrder) -> Result<(), NoMemory>
         ensures { OnOk result (line.new ≡ with_base self.now base.now line.old) }
     {
         match self.lines.line(base) {
@@ -151,7 +151,7 @@ impl Scopes {
     }
 
     /// Keeps the line of an interface's scope.
-    pub fn put_line(&mut self, alloc: Global, scope: &[u8], line: Line) -> Result<(), NoMemory>
+    pub fn put_line(&mut self, alloc: Global, scope: &[u8], line: BaseOrder) -> Result<(), NoMemory>
         ensures { OnOk result (self.new ≡ with_line scope.now line self.old) }
     {
         self.lines.put(alloc, scope, line)

@@ -2,7 +2,7 @@
 
 ghost use Rattle.std.specs.Prelude.{◌≡◌, ◌<◌, ◌+◌, length, IfOk, IfErr, OnOk};
 ghost use Rattle.aoi.specs.Shapes.{seen};
-ghost use Rattle.aoi.specs.declared.faults.NameFault.TheVariants.{NoMemory as WantOfMemory};
+ghost use Rattle.aoi.specs.declared.faults.NameFault.TheVariants.{NoMemory as OutOfMemory};
 ghost use Rattle.idl_names.specs.Answers.{Gives};
 ghost use Rattle.corba_shapes.specs.Held.{state};
 ghost use Rattle.corba_shapes.specs.State.{start, counted, with_type};
@@ -49,7 +49,7 @@ impl Shapes {
     pub fn next(&mut self) -> Result<u32, NameErr>
         ensures ok { OnOk result (state self.new ≡ counted (state self.old)) }
         ensures number { IfOk result (λ d. d ≡ self.old.count + 1) }
-        ensures err { IfErr result (λ e. e.fault ≡ WantOfMemory) }
+        ensures err { IfErr result (λ e. e.fault ≡ OutOfMemory) }
     {
         match self.count.checked_add(1) {
             Some(n) => {
@@ -63,7 +63,7 @@ impl Shapes {
     /// The number of the next type.
     pub(crate) fn next_type(&self) -> Result<u32, NameErr>
         ensures ok { IfOk result (λ k. k ≡ length self.now.types) }
-        ensures err { IfErr result (λ e. e.fault ≡ WantOfMemory) }
+        ensures err { IfErr result (λ e. e.fault ≡ OutOfMemory) }
     {
         match u32::try_from(self.types.len()) {
             Ok(k) => Ok(k),

@@ -17,7 +17,7 @@ use stub_print::{print_recv, print_send};
 pub fn stubs_text(alloc: Global, engine: &Engine) -> Result<Octets, NoMemory>
     ensures value { IfOk result (λ t. t ≡ stubs_text engine.now) }
 {
-    engine.codes_are_the_operations();
+    engine.codes_match_operations();
     let mut out = Octets::new(alloc);
     let interfaces = engine.bound().unit().interfaces().as_slice();
     for (i, op) in engine.bound().ops().as_slice().iter().enumerate() {
@@ -31,7 +31,7 @@ pub fn stubs_text(alloc: Global, engine: &Engine) -> Result<Octets, NoMemory>
 pub fn counted_text(alloc: Global, engine: &Engine) -> Result<Octets, NoMemory>
     ensures value { IfOk result (λ t. t ≡ counted_text engine.now) }
 {
-    engine.codes_are_the_operations();
+    engine.codes_match_operations();
     let mut out = Octets::new(alloc);
     let interfaces = engine.bound().unit().interfaces().as_slice();
     for (i, op) in engine.bound().ops().as_slice().iter().enumerate() {

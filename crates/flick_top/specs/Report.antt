@@ -1,4 +1,4 @@
--- What is said in place of answers, and how a call ends that says it.
+-- Reports: what is written in place of answers, and how a call ends that writes it.
 use Rattle.std.specs.Prelude.{ℕ, List, ◌++◌, codes, decimal}
 use Rattle.idl_lex.specs.declared.lexing.LexErr.{LexErr}
 use Rattle.idl_lex.specs.declared.lexing.LexErr.TheVariants as lex

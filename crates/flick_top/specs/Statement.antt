@@ -39,7 +39,7 @@ pub record Done (task : Task) (f : Answering) (made : Option Coded) (left left' 
   -- where the work was done, the buffer was spent by what was sent
   pub spent : status ≤ refused → (input : List ℕ) → left ≡ Some input → IsSpentBy (exact_of task.feed) (sent_of task f input) old new
 
--- unless there was no task, this was done of the task to which the words come over the files; its codes are those of the engine left
+-- the task that words and files define was carried out, unless the command failed first; its codes are those of the engine left
 abbrev pub Works : Option Coded → List (List ℕ) → Files → Input → Input → ℕ → ℕ → Held → Held → Buf → Buf → ℕ → Type 0
 Works made words files left left' before now held held' old new status = Fails left left' held held' status
     ⊎ Does (codes_of made) words files (λ task f. Done task f made left left' before now held held' old new status)

@@ -2,7 +2,7 @@
 
 ghost use Rattle.std.specs.Prelude.{◌≡◌, ◌≤◌, Err, IfOk, length};
 ghost use Rattle.kit_base.specs.Limits.{longest_file};
-ghost use Rattle.aoi.specs.declared.faults.NameFault.TheVariants.{NoMemory as WantOfMemory};
+ghost use Rattle.aoi.specs.declared.faults.NameFault.TheVariants.{NoMemory as OutOfMemory};
 ghost use Rattle.front_onc.specs.Resolved.{IsWhole as OncIsWhole, resolved as onc_resolved};
 ghost use Rattle.front_corba.specs.Resolved.{IsWhole as CorbaIsWhole, resolved as corba_resolved};
 ghost use Rattle.front_mig.specs.Resolved.{resolved as mig_resolved};
@@ -60,7 +60,7 @@ fn of_tokens(alloc: Global, front: Front, tokens: &Tokens) -> Result<Result<Unit
 
 /// What is said of a name that is not resolved.
 fn named(error: NameErr) -> Result<Result<Unit, Report>, NoMemory>
-    ensures { IfOk result (λ read. (error.fault ≡ WantOfMemory → ⊥) × (read ≡ Err (reports.Name error))) }
+    ensures { IfOk result (λ read. (error.fault ≡ OutOfMemory → ⊥) × (read ≡ Err (reports.Name error))) }
 {
     match error.fault {
         NameFault::NoMemory => Err(NoMemory),

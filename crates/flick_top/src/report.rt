@@ -1,4 +1,4 @@
-//! What is said in place of answers.
+//! Reports: what is written in place of answers.
 
 ghost use Rattle.std.specs.Prelude.{◌≡◌, IfOk, string_bytes};
 ghost use Rattle.flick_top.specs.Report.{report_text, report_status, lex_name, place_of, name_name, bind_name};
@@ -21,7 +21,7 @@ commands:\n\
 \x20                                record\n\
 \x20 reply FRONT BACK FILE          answer each reply record by the hexadecimal digits of its\n\
 \x20                                message\n\
-\x20 unreply FRONT BACK FILE        answer each name of an operation, space and reply to it in\n\
+\x20 unreply FRONT BACK FILE        answer each line with an operation, a space and a reply in\n\
 \x20                                hexadecimal digits by its reply record\n\
 \x20 pipe FRONT BACK FILE           write the message of each request record, one after the\n\
 \x20                                other, as raw octets; a line that marshal refuses adds\n\
@@ -75,7 +75,7 @@ status:\n\
 /// The line that `--version` writes.
 pub const VERSION: &[u8] = b"flick 0.1.0\n";
 
-/// What is said in place of answers.
+/// A report: what is written in place of answers.
 #[derive(Clone, Copy, Debug, PartialEq, Eq)]
 pub enum Report {
     /// The page of usage.

@@ -13,7 +13,7 @@ use crate::named::Offers;
 use crate::operations::operation;
 use crate::state::{Heir, Offering, Resolver};
 use crate::{NameErr, NameFault};
-use corba_scopes::{Line, Meaning, Scopes, full_name, innermost, inside};
+use corba_scopes::{BaseOrder, Meaning, Scopes, full_name, innermost, inside};
 use corba_shapes::{Shapes, declare};
 use corba_syntax::{Export, Interface};
 use idl_names::refuse;
@@ -69,7 +69,7 @@ fn open(
     home: u32,
     scopes: &mut Scopes,
     name: &[u8],
-    line: Line,
+    line: BaseOrder,
 ) -> Result<(), NameErr>
     ensures { Gives (λ _. scopes.new) result (opened_on d scope.now inner.now home scopes.old name.now line) }
 {
@@ -139,7 +139,7 @@ fn heritage(
     env: &[Name],
     d: u32,
     i: &Interface,
-) -> Result<(Line, Offers), NameErr>
+) -> Result<(BaseOrder, Offers), NameErr>
     ensures { Gives (λ x. (x.0, map plain_offer x.1)) result (heritage_on d env.now (held r.now) i.now) }
 {
     let inner = inside(alloc, env, i.name.name.as_slice())?;
@@ -159,7 +159,7 @@ fn enter(
     env: &[Name],
     d: u32,
     home: u32,
-    line: Line,
+    line: BaseOrder,
     shapes: &mut Shapes,
     ops: &mut Offers,
     i: &Interface,

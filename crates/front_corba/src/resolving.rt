@@ -6,7 +6,7 @@ ghost use Rattle.corba_syntax.specs.Derivation.{Derives};
 ghost use Rattle.corba_syntax.specs.declared.definition_tree.Definition.{Definition as DefinitionTree};
 ghost use Rattle.aoi.specs.Plain.{plain, plain_operation, plain_interface};
 ghost use Rattle.aoi.specs.Sound.{IsSound};
-ghost use Rattle.aoi.specs.declared.faults.NameFault.TheVariants.{NoMemory as WantOfMemory};
+ghost use Rattle.aoi.specs.declared.faults.NameFault.TheVariants.{NoMemory as OutOfMemory};
 ghost use Rattle.idl_names.specs.Answers.{Gives};
 ghost use Rattle.kit_base.specs.Limits.{most_interfaces, most_operations};
 ghost use Rattle.aoi.specs.Units.{is_twice};
@@ -159,7 +159,7 @@ fn add_interfaces(alloc: Global, unit: &mut Unit, list: &[Offering]) -> Result<(
 fn unit_of(alloc: Global, r: Resolver) -> Result<Unit, NameErr>
     requires { IsTrue (are_fit (map plain_offering r.interfaces)) }
     ensures ok { IfOk result (λ unit. plain unit ≡ unit_of (held r)) }
-    ensures err { IfErr result (λ e. e.fault ≡ WantOfMemory) }
+    ensures err { IfErr result (λ e. e.fault ≡ OutOfMemory) }
 {
     let Resolver { shapes, interfaces } = r;
     let mut unit = shapes.types.into_unit();
@@ -176,7 +176,7 @@ pub fn resolve(alloc: Global, tree: &Tree) -> Result<Unit, NameErr>
     requires { IsWhole tree.now }
     ensures value { IfOk result (λ unit. resolved tree.now ≡ Ok (plain unit)) }
     ensures sound { IfOk result (λ unit. IsSound unit) }
-    ensures stop { IfErr result (λ e. (e.fault ≡ WantOfMemory) ⊎ (resolved tree.now ≡ Err e)) }
+    ensures stop { IfErr result (λ e. (e.fault ≡ OutOfMemory) ⊎ (resolved tree.now ≡ Err e)) }
 {
     let mut r = Resolver::new(alloc);
     let env = of_file(alloc)?;

@@ -6,7 +6,7 @@ ghost use Rattle.front_corba.specs.State.{start, no_bases};
 
 use crate::named::Offers;
 use aoi::Operation;
-use corba_scopes::Line;
+use corba_scopes::BaseOrder;
 use corba_shapes::Shapes;
 use indexmap::IndexSet;
 use kit_base::{Listed, Name, NoMemory};
@@ -36,7 +36,7 @@ pub(crate) struct Heir {
     /// The bases, by their numbers.
     pub(crate) numbers: IndexSet<u32>,
     /// The scopes in which its names are found.
-    pub(crate) line: Line,
+    pub(crate) line: BaseOrder,
     /// Its operations.
     pub(crate) ops: Offers,
 }
@@ -57,7 +57,7 @@ impl Heir {
     {
         Ok(Heir {
             numbers: IndexSet::new(alloc),
-            line: Line::of(alloc, scope)?,
+            line: BaseOrder::of(alloc, scope)?,
             ops: Offers::new(alloc),
         })
     }

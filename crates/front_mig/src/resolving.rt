@@ -3,7 +3,7 @@
 ghost use Rattle.std.specs.Prelude.{◌≡◌, ◌⊎◌, ◌+◌, IfOk, IfErr, Ok, Err};
 ghost use Rattle.aoi.specs.Plain.{plain};
 ghost use Rattle.aoi.specs.Sound.{IsSound};
-ghost use Rattle.aoi.specs.declared.faults.NameFault.TheVariants.{NoMemory as WantOfMemory};
+ghost use Rattle.aoi.specs.declared.faults.NameFault.TheVariants.{NoMemory as OutOfMemory};
 ghost use Rattle.idl_names.specs.Answers.{Gives};
 ghost use Rattle.front_mig.specs.Held.{state};
 ghost use Rattle.front_mig.specs.Resolved.{stated, stated_on, resolved};
@@ -20,7 +20,7 @@ use std::alloc::Global;
 /// The number of the next declaration.
 fn next(decl: u32) -> Result<u32, NameErr>
     ensures ok { IfOk result (λ d. d ≡ decl + 1) }
-    ensures err { IfErr result (λ e. e.fault ≡ WantOfMemory) }
+    ensures err { IfErr result (λ e. e.fault ≡ OutOfMemory) }
 {
     match decl.checked_add(1) {
         Some(next) => Ok(next),
@@ -65,7 +65,7 @@ fn state_all(alloc: Global, r: &mut Resolver, base: u32, list: &[Statement]) -> 
 pub fn resolve(alloc: Global, tree: &Tree) -> Result<Unit, NameErr>
     ensures value { IfOk result (λ unit. resolved tree.now ≡ Ok (plain unit)) }
     ensures sound { IfOk result (λ unit. IsSound unit) }
-    ensures stop { IfErr result (λ e. (e.fault ≡ WantOfMemory) ⊎ (resolved tree.now ≡ Err e)) }
+    ensures stop { IfErr result (λ e. (e.fault ≡ OutOfMemory) ⊎ (resolved tree.now ≡ Err e)) }
 {
     let base = base_of(1, &tree.base)?;
     let mut r = Resolver::new(alloc);

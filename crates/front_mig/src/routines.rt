@@ -1,7 +1,7 @@
 //! Types and routines.
 
 ghost use Rattle.std.specs.Prelude.{◌≡◌, ◌+◌, ◌<◌, map, false, IfOk, IfErr, OnOk};
-ghost use Rattle.aoi.specs.declared.faults.NameFault.TheVariants.{NoMemory as WantOfMemory};
+ghost use Rattle.aoi.specs.declared.faults.NameFault.TheVariants.{NoMemory as OutOfMemory};
 ghost use Rattle.kit_base.specs.Limits.{most_operations};
 ghost use Rattle.aoi.specs.Shapes.{seen_field};
 ghost use Rattle.aoi.specs.Plain.{plain_operation};
@@ -26,7 +26,7 @@ use std::alloc::Global;
 fn declare(alloc: Global, r: &mut Resolver, name: &[u8], form: Form) -> Result<(), NameErr>
     requires { is_declared name.now r.old.scope ≡ false }
     ensures ok { OnOk result (state r.new ≡ with_form name.now form (state r.old)) }
-    ensures err { IfErr result (λ e. e.fault ≡ WantOfMemory) }
+    ensures err { IfErr result (λ e. e.fault ≡ OutOfMemory) }
 {
     match form {
         Form::Port => r.declare_port(alloc, name),

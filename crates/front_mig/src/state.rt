@@ -4,7 +4,7 @@ ghost use Rattle.std.specs.Prelude.{◌≡◌, ◌<◌, ◌+◌, [], false, leng
 ghost use Rattle.kit_base.specs.Limits.{most_operations};
 ghost use Rattle.aoi.specs.Shapes.{seen};
 ghost use Rattle.aoi.specs.Plain.{plain, plain_operation};
-ghost use Rattle.aoi.specs.declared.faults.NameFault.TheVariants.{NoMemory as WantOfMemory};
+ghost use Rattle.aoi.specs.declared.faults.NameFault.TheVariants.{NoMemory as OutOfMemory};
 ghost use Rattle.idl_names.specs.Answers.{Gives};
 ghost use Rattle.idl_names.specs.Names.{has, is_declared};
 ghost use Rattle.front_mig.specs.Held.{state};
@@ -74,7 +74,7 @@ impl Resolver {
     pub(crate) fn declare_port(&mut self, alloc: Global, name: &[u8]) -> Result<(), NameErr>
         requires { is_declared name.now self.old.scope ≡ false }
         ensures ok { OnOk result (state self.new ≡ declared name.now Meaning.Port (state self.old)) }
-        ensures err { IfErr result (λ e. e.fault ≡ WantOfMemory) }
+        ensures err { IfErr result (λ e. e.fault ≡ OutOfMemory) }
     {
         self.scope.declare(alloc, name, Meaning::Port)?;
         Ok(())
@@ -90,7 +90,7 @@ impl Resolver {
     ) -> Result<(), NameErr>
         requires { is_declared name.now self.old.scope ≡ false }
         ensures ok { OnOk result (state self.new ≡ with_type name.now (seen ty) tag (state self.old)) }
-        ensures err { IfErr result (λ e. e.fault ≡ WantOfMemory) }
+        ensures err { IfErr result (λ e. e.fault ≡ OutOfMemory) }
     {
         if self.unit.types().len() > u32::MAX as usize {
             return Err(want());
@@ -142,7 +142,7 @@ impl Resolver {
         requires room { length self.old.ops < most_operations }
         ensures ok { OnOk result
             (state self.new ≡ with_routine name.now (plain_operation op) (state self.old)) }
-        ensures err { IfErr result (λ e. e.fault ≡ WantOfMemory) }
+        ensures err { IfErr result (λ e. e.fault ≡ OutOfMemory) }
     {
         self.names.push(alloc, name)?;
         self.ops.push(op)?;
@@ -152,7 +152,7 @@ impl Resolver {
     /// The unit, with the subsystem as its interface.
     pub(crate) fn into_unit(self, alloc: Global, name: &[u8], base: u32) -> Result<Unit, NameErr>
         ensures ok { IfOk result (λ unit. plain unit ≡ unit_of name.now base (state self)) }
-        ensures err { IfErr result (λ e. e.fault ≡ WantOfMemory) }
+        ensures err { IfErr result (λ e. e.fault ≡ OutOfMemory) }
     {
         let interface = Interface {
             name: Name::from_slice(alloc, name)?,

@@ -6,7 +6,7 @@ ghost use Rattle.onc_syntax.specs.Derivation.{Derives};
 ghost use Rattle.onc_syntax.specs.declared.tree.Def.{Def as DefTree};
 ghost use Rattle.aoi.specs.Plain.{plain};
 ghost use Rattle.aoi.specs.Sound.{IsSound};
-ghost use Rattle.aoi.specs.declared.faults.NameFault.TheVariants.{NoMemory as WantOfMemory};
+ghost use Rattle.aoi.specs.declared.faults.NameFault.TheVariants.{NoMemory as OutOfMemory};
 ghost use Rattle.idl_names.specs.Answers.{Gives};
 ghost use Rattle.front_onc.specs.Held.{state};
 ghost use Rattle.front_onc.specs.Names.{known};
@@ -90,7 +90,7 @@ pub fn resolve(alloc: Global, tree: &Tree) -> Result<Unit, NameErr>
     requires { IsWhole tree.now }
     ensures value { IfOk result (λ unit. resolved tree.now ≡ Ok (plain unit)) }
     ensures sound { IfOk result (λ unit. IsSound unit) }
-    ensures stop { IfErr result (λ e. (e.fault ≡ WantOfMemory) ⊎ (resolved tree.now ≡ Err e)) }
+    ensures stop { IfErr result (λ e. (e.fault ≡ OutOfMemory) ⊎ (resolved tree.now ≡ Err e)) }
 {
     let mut r = Resolver::over(alloc, known(alloc)?);
     define_all(alloc, &mut r, tree.as_slice())?;

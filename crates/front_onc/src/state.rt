@@ -11,7 +11,7 @@ ghost use Rattle.front_onc.specs.Programs.{offered};
 ghost use Rattle.front_onc.specs.Resolved.{start};
 ghost use Rattle.front_onc.specs.State.{counted, declared, with_type};
 ghost use Rattle.front_onc.specs.Enums.{with_label};
-ghost use Rattle.aoi.specs.declared.faults.NameFault.TheVariants.{NoMemory as WantOfMemory};
+ghost use Rattle.aoi.specs.declared.faults.NameFault.TheVariants.{NoMemory as OutOfMemory};
 
 use crate::meaning::Scope;
 use crate::{Meaning, NameErr, NameFault, Tag, Use};
@@ -76,7 +76,7 @@ impl Resolver {
         ensures number { IfOk result (λ d. d ≡ self.old.count + 1) }
         ensures scope { self.new.scope ≡ self.old.scope }
         ensures versions { self.new.versions ≡ self.old.versions }
-        ensures err { IfErr result (λ e. e.fault ≡ WantOfMemory) }
+        ensures err { IfErr result (λ e. e.fault ≡ OutOfMemory) }
     {
         match self.count.checked_add(1) {
             Some(n) => {
@@ -96,7 +96,7 @@ impl Resolver {
     ) -> Result<(), NameErr>
         requires { is_declared name.now self.old.scope ≡ false }
         ensures ok { OnOk result (state self.new ≡ declared name.now meaning (state self.old)) }
-        ensures err { IfErr result (λ e. e.fault ≡ WantOfMemory) }
+        ensures err { IfErr result (λ e. e.fault ≡ OutOfMemory) }
     {
         self.scope.declare(alloc, name, meaning)?;
         Ok(())
@@ -112,7 +112,7 @@ impl Resolver {
     ) -> Result<(), NameErr>
         requires { is_declared name.now self.old.scope ≡ false }
         ensures ok { OnOk result (state self.new ≡ with_type name.now (seen ty) tag (state self.old)) }
-        ensures err { IfErr result (λ e. e.fault ≡ WantOfMemory) }
+        ensures err { IfErr result (λ e. e.fault ≡ OutOfMemory) }
     {
         if self.unit.types().len() > u32::MAX as usize {
             return Err(want());
@@ -126,7 +126,7 @@ impl Resolver {
     /// The number of the next type.
     pub(crate) fn next_type(&self) -> Result<u32, NameErr>
         ensures ok { IfOk result (λ k. k ≡ length self.now.unit.types) }
-        ensures err { IfErr result (λ e. e.fault ≡ WantOfMemory) }
+        ensures err { IfErr result (λ e. e.fault ≡ OutOfMemory) }
     {
         match u32::try_from(self.unit.types().len()) {
             Ok(k) => Ok(k),

@@ -2,7 +2,7 @@
 
 ghost use Rattle.std.specs.Prelude.{◌≡◌, ◌++◌, IfOk, IfErr, OnOk};
 ghost use Rattle.idl_lex.specs.Lexed.{AreTokens, Explains, token_on};
-ghost use Rattle.idl_lex.specs.declared.lexing.LexErr.TheVariants.{NoMemory as WantOfMemory};
+ghost use Rattle.idl_lex.specs.declared.lexing.LexErr.TheVariants.{NoMemory as OutOfMemory};
 
 use crate::files::imports_on;
 use crate::lines::line_past;
@@ -33,7 +33,7 @@ pub enum LexErr {
 }
 
 impl From<NoMemory> for LexErr {
-    ghost from_gives = { λ _ e. e ≡ WantOfMemory };
+    ghost from_gives = { λ _ e. e ≡ OutOfMemory };
 
     fn from(_: NoMemory) -> LexErr {
         LexErr::NoMemory

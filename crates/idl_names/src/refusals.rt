@@ -1,7 +1,7 @@
 //! Faults, and the numbers that are none.
 
 ghost use Rattle.std.specs.Prelude.{◌≡◌};
-ghost use Rattle.aoi.specs.declared.faults.NameFault.TheVariants.{NoMemory as WantOfMemory};
+ghost use Rattle.aoi.specs.declared.faults.NameFault.TheVariants.{NoMemory as OutOfMemory};
 ghost use Rattle.idl_names.specs.Answers.{Gives, in_range, natural, refused};
 
 use aoi::{NameErr, NameFault};
@@ -9,7 +9,7 @@ use idl_const::ConstErr;
 
 /// The fault of out of memory, which is in no declaration.
 pub fn want() -> NameErr
-    ensures { result.fault ≡ WantOfMemory }
+    ensures { result.fault ≡ OutOfMemory }
 {
     NameErr {
         fault: NameFault::NoMemory,

@@ -1,7 +1,7 @@
 //! Why tokens have no tree.
 
 ghost use Rattle.std.specs.Prelude.{◌≡◌};
-ghost use Rattle.idl_read.specs.declared.errors.SyntaxErr.TheVariants.{NoMemory as WantOfMemory};
+ghost use Rattle.idl_read.specs.declared.errors.SyntaxErr.TheVariants.{NoMemory as OutOfMemory};
 
 use kit_base::NoMemory;
 use thiserror::Error;
@@ -18,7 +18,7 @@ pub enum SyntaxErr {
 }
 
 impl From<NoMemory> for SyntaxErr {
-    ghost from_gives = { λ _ e. e ≡ WantOfMemory };
+    ghost from_gives = { λ _ e. e ≡ OutOfMemory };
 
     fn from(_: NoMemory) -> SyntaxErr {
         SyntaxErr::NoMemory

@@ -1,7 +1,7 @@
 //! Why a production is not read.
 
 ghost use Rattle.std.specs.Prelude.{◌≡◌};
-ghost use Rattle.idl_read.specs.declared.halt.Halt.TheVariants.{NoMemory as WantOfMemory};
+ghost use Rattle.idl_read.specs.declared.halt.Halt.TheVariants.{NoMemory as OutOfMemory};
 
 use kit_base::NoMemory;
 use std::alloc::{AllocFailed, Global};
@@ -16,7 +16,7 @@ pub enum Halt {
 }
 
 impl From<NoMemory> for Halt {
-    ghost from_gives = { λ _ e. e ≡ WantOfMemory };
+    ghost from_gives = { λ _ e. e ≡ OutOfMemory };
 
     fn from(_: NoMemory) -> Halt {
         Halt::NoMemory
@@ -24,7 +24,7 @@ impl From<NoMemory> for Halt {
 }
 
 impl<T: Drop> From<AllocFailed<T>> for Halt {
-    ghost from_gives = { λ _ e. e ≡ WantOfMemory };
+    ghost from_gives = { λ _ e. e ≡ OutOfMemory };
 
     fn from(_: AllocFailed<T>) -> Halt {
         Halt::NoMemory

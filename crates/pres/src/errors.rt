@@ -1,7 +1,7 @@
 //! Why a unit is not bound.
 
 ghost use Rattle.std.specs.Prelude.{◌≡◌};
-ghost use Rattle.pres.specs.declared.errors.BindErr.TheVariants.{NoMemory as WantOfMemory};
+ghost use Rattle.pres.specs.declared.errors.BindErr.TheVariants.{NoMemory as OutOfMemory};
 
 use kit_base::NoMemory;
 use thiserror::Error;
@@ -27,7 +27,7 @@ pub enum BindErr {
 }
 
 impl From<NoMemory> for BindErr {
-    ghost from_gives = { λ _ e. e ≡ WantOfMemory };
+    ghost from_gives = { λ _ e. e ≡ OutOfMemory };
 
     fn from(_: NoMemory) -> BindErr {
         BindErr::NoMemory

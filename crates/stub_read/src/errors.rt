@@ -1,7 +1,7 @@
 //! Why no stub is read.
 
 ghost use Rattle.std.specs.Prelude.{◌≡◌};
-ghost use Rattle.stub_read.specs.declared.errors.StubErr.TheVariants.{NoMemory as WantOfMemory};
+ghost use Rattle.stub_read.specs.declared.errors.StubErr.TheVariants.{NoMemory as OutOfMemory};
 
 use kit_base::NoMemory;
 use std::alloc::{AllocFailed, Global};
@@ -16,7 +16,7 @@ pub enum StubErr {
 }
 
 impl From<NoMemory> for StubErr {
-    ghost from_gives = { λ _ e. e ≡ WantOfMemory };
+    ghost from_gives = { λ _ e. e ≡ OutOfMemory };
 
     fn from(_: NoMemory) -> StubErr {
         StubErr::NoMemory
@@ -24,7 +24,7 @@ impl From<NoMemory> for StubErr {
 }
 
 impl<T: Drop> From<AllocFailed<T>> for StubErr {
-    ghost from_gives = { λ _ e. e ≡ WantOfMemory };
+    ghost from_gives = { λ _ e. e ≡ OutOfMemory };
 
     fn from(_: AllocFailed<T>) -> StubErr {
         StubErr::NoMemory

@@ -8,7 +8,7 @@ use Rattle.flick_texts.proofs.stubs.stubs_text.Goals as goal
 pub loop-i-preserved : goal.loop-i-preserved
 loop-i-preserved c =
     next_listed both_texts c.args.engine.now c.as_slice-op-items.result.now c.as_slice-interfaces.result.now c.loop-i.i
-    c.in_ok-number_of.field-0 c.op-item.result c.in_ok-name.name c.loop-i.out c.append_both.new.out c.codes_are_the_operations.ensures.many
+    c.in_ok-number_of.field-0 c.op-item.result c.in_ok-name.name c.loop-i.out c.append_both.new.out c.codes_match_operations.ensures.many
     (c.as_slice-op-items.ensures ∙ c.ops.ensures.value ∙ ap (λ (b : Binding). b.ops) c.bound-2.ensures.value)
     (ap (map plain_interface) (c.as_slice-interfaces.ensures ∙ c.interfaces.ensures)
     ∙ ap (λ (u : PlainUnit). u.interfaces) c.unit.ensures ∙ ap (λ (b : Binding). b.unit.interfaces) c.bound.ensures.value)

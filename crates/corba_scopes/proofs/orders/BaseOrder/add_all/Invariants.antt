@@ -1,6 +1,6 @@
 use Rattle.std.proofs.Common.{◌≡◌, map, drop}
 use Rattle.corba_scopes.specs.Finding.{joined}
-use Rattle.corba_scopes.proofs.lines.Line.add_all.Given as goal
+use Rattle.corba_scopes.proofs.orders.BaseOrder.add_all.Given as goal
 
 abbrev pub invariant-loop-scope : goal.invariant-loop-scope
 invariant-loop-scope l =

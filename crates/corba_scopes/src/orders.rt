@@ -1,4 +1,4 @@
-//! The scopes of interfaces, each with those in which its names are found.
+//! Base orders: for each interface the scopes in which its names are found.
 
 ghost use Rattle.std.specs.Prelude.{◌≡◌, ◌∷◌, [], map, IfOk, OnOk, option_copied};
 ghost use Rattle.idl_names.specs.Names.{meaning_of};
@@ -10,13 +10,13 @@ use kit_base::NoMemory;
 use std::alloc::Global;
 use std::marker::Model;
 
-/// The scopes in which a name of an interface is found: its own, and then those of its bases, each once.
+/// The base order of an interface: its own scope, and then those of its bases, each once.
 #[derive(Drop)]
-pub struct Line {
+pub struct BaseOrder {
     scopes: IndexSet<Vec<u8>>,
 }
 
-impl Model for Line {
+impl Model for BaseOrder {
     ghost use Rattle.std.specs.Prelude.{List, ℕ, map};
     ghost use Rattle.std.specs.Coded.{codes};
 
@@ -25,12 +25,12 @@ impl Model for Line {
     ghost view = { λ s. map (λ k. k.items) s.scopes.keys };
 }
 
-impl Line {
-    /// The line of an interface without bases.
-    pub fn of(alloc: Global, scope: &[u8]) -> Result<Line, NoMemory>
+impl BaseOrder {
+    /// The order of an interface without bases.
+    pub fn of(alloc: Global, scope: &[u8]) -> Result<BaseOrder, NoMemory>
         ensures { IfOk result (λ line. line ≡ scope.now ∷ []) }
     {
-        let mut line = Line {
+        let mut line = BaseOrder {
             scopes: IndexSet::new(alloc),
         };
         line.add(alloc, scope)?;
@@ -56,8 +56,8 @@ impl Line {
         Ok(())
     }
 
-    /// Puts the scopes of a line after the others, without those that are there.
-    pub fn join(&mut self, alloc: Global, other: &Line) -> Result<(), NoMemory>
+    /// Puts the scopes of another order after the others, without those that are there.
+    pub fn join(&mut self, alloc: Global, other: &BaseOrder) -> Result<(), NoMemory>
         ensures { OnOk result (self.new ≡ joined self.old other.now) }
     {
         self.add_all(alloc, other.scopes())
@@ -71,13 +71,13 @@ impl Line {
     }
 }
 
-/// The lines of interfaces, by their scopes.
+/// The base orders of interfaces, by their scopes.
 #[derive(Drop)]
-pub(crate) struct Lines {
-    lines: IndexMap<Vec<u8>, Line>,
+pub(crate) struct BaseOrders {
+    lines: IndexMap<Vec<u8>, BaseOrder>,
 }
 
-impl Model for Lines {
+impl Model for BaseOrders {
     ghost use Rattle.std.specs.Prelude.{List, ℕ, map};
     ghost use Rattle.std.specs.Coded.{codes};
 
@@ -86,25 +86,30 @@ impl Model for Lines {
     ghost view = { λ s. map (λ e. (e.0.items, e.1)) s.lines.entries };
 }
 
-impl Lines {
+impl BaseOrders {
     /// No lines.
-    pub(crate) fn new(alloc: Global) -> Lines
+    pub(crate) fn new(alloc: Global) -> BaseOrders
         ensures { result ≡ [] }
     {
-        Lines {
+        BaseOrders {
             lines: IndexMap::new(alloc),
         }
     }
 
     /// The line of a scope, where it is an interface's.
-    pub(crate) fn line(&self, scope: &[u8]) -> Option<&Line>
+    pub(crate) fn line(&self, scope: &[u8]) -> Option<&BaseOrder>
         ensures { option_copied result ≡ meaning_of scope.now self.now }
     {
         self.lines.get(scope)
     }
 
     /// Puts the line of a scope in its place, or after the others.
-    pub(crate) fn put(&mut self, alloc: Global, scope: &[u8], line: Line) -> Result<(), NoMemory>
+    pub(crate) fn put(
+        &mut self,
+        alloc: Global,
+        scope: &[u8],
+        line: BaseOrder,
+    ) -> Result<(), NoMemory>
         ensures { OnOk result (self.new ≡ put scope.now line self.old) }
     {
         let key = Vec::from_slice(alloc, scope)?;

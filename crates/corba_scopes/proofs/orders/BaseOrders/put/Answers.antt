@@ -1,5 +1,5 @@
 use Rattle.corba_scopes.proofs.Keyed.{put_on}
-use Rattle.corba_scopes.proofs.lines.Lines.put.Goals as goal
+use Rattle.corba_scopes.proofs.orders.BaseOrders.put.Goals as goal
 
 pub returns : goal.returns
 returns c = put_on (λ k. k.items) c.in_ok-key.key c.args.line c.self.inside.lines.entries c.insert.new.self.entries c.args.self.now _

@@ -1,7 +1,7 @@
 use Rattle.std.proofs.Common.{◌∙◌, ap}
 use Rattle.idl_names.specs.Names.{meaning_of}
 use Rattle.idl_names.proofs.Tables.{meaning_map}
-use Rattle.corba_scopes.proofs.lines.Lines.line.Goals as goal
+use Rattle.corba_scopes.proofs.orders.BaseOrders.line.Goals as goal
 
 pub returns : goal.returns
 returns c =
