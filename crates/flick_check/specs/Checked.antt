@@ -105,8 +105,8 @@ last_line line (x ∷ xs) = codes "! text " ++ (decimal line ++ 10 ∷ [])
 -- octets from a line on are these parts, one after the other, and then what has none; and this answers them
 abbrev pub AreAnswered : Coded → ℕ → List ℕ → List Part → List ℕ → Type 0
 AreAnswered e line text [] a = HasNoPart text × (a ≡ last_line line text)
-AreAnswered e line text (p ∷ ps) a = IsPart text p × ((first more : List ℕ) × IsPartAnswer e p first
-    × AreAnswered e (line + feeds (take (used_of p) text)) (drop (used_of p) text) ps more × (a ≡ first ++ more))
+AreAnswered e line text (p ∷ ps) a = (first : List ℕ) × (more : List ℕ) × IsPart text p × IsPartAnswer e p first
+    × AreAnswered e (line + feeds (take (used_of p) text)) (drop (used_of p) text) ps more × (a ≡ first ++ more)
 
 -- the answers to octets from a line on
 abbrev pub IsCheckedFrom : Coded → ℕ → List ℕ → List ℕ → Type 0
@@ -156,3 +156,7 @@ IsTakenOrNot e text (Some used) old new = IsTaken e text used old new
 -- the answer to a stub is put
 abbrev pub IsAnswerPut : Coded → List ℕ → SendCode → Option ℕ → List ℕ → List ℕ → Type 0
 IsAnswerPut e name code op old new = (a : List ℕ) × IsAnswer e name code op a × (new ≡ old ++ a)
+
+-- what answers the rest of a text, after what was put, answers the text
+abbrev pub Goes : Coded → List ℕ → ℕ → List ℕ → List ℕ → Type 0
+Goes e text line rest put = (a : List ℕ) → IsCheckedFrom e line rest a → IsChecked e text (put ++ a)

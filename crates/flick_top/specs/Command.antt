@@ -110,6 +110,16 @@ AnswersItems (Some (Over action n)) = IsOverItems action
 AnswersItems (Some (Bridge n to)) = Unit {0}
 AnswersItems _ = ⊥
 
+-- an action that says what is to be said of stubs
+abbrev pub IsOverStubs : Action → Type 0
+IsOverStubs (Check stubs) = Unit {0}
+IsOverStubs _ = ⊥
+
+-- a command that does
+abbrev pub ChecksStubs : Option Command → Type 0
+ChecksStubs (Some (Over action n)) = IsOverStubs action
+ChecksStubs _ = ⊥
+
 -- a command over files
 abbrev pub ReadsFiles : Option Command → Type 0
 ReadsFiles (Some (Show front)) = Unit {0}

@@ -2,6 +2,7 @@
 
 ghost use Rattle.std.specs.Prelude.{◌≡◌, [], List, Option, Some, None, IfOk, IfSome, if◌then◌else◌};
 ghost use Rattle.flick_check.specs.Checked as checked;
+ghost use Rattle.flick_check.specs.Checked.{YesIsSent};
 ghost use Rattle.flick_lines.specs.Sent.{Sending};
 ghost use Rattle.stub_codes.specs.Stubs.{IsCoded};
 ghost use Rattle.flick_top.specs.Answer.{Answering};
@@ -12,7 +13,7 @@ ghost use Rattle.flick_top.specs.Turn.{IsReady};
 use crate::job::Job;
 use crate::report::Report;
 use crate::status::Status;
-use flick_check::has_refusal;
+use flick_check::{a_yes_is_sent, has_refusal};
 use flick_engine::Engine;
 use kit_base::{NoMemory, Octets};
 use std::alloc::Global;
@@ -109,6 +110,16 @@ impl Prepared {
         }
     }
 
+    /// What a yes promises of stubs, where no items are answered and there is an engine. It looks at each node once.
+    pub fn yes_is_sent(&self)
+        ensures { self.now.feed ≡ None → IfSome (engine_of self.now) YesIsSent }
+    {
+        match &self.feed {
+            Some(_) => {}
+            None => yes_of_idle(&self.idle),
+        }
+    }
+
     /// The engine, where there is one.
     pub fn into_engine(self) -> Option<Engine>
         ensures { result ≡ engine_of self }
@@ -127,6 +138,16 @@ fn codes_of_idle(idle: &Option<Engine>)
 {
     match idle {
         Some(engine) => engine.codes_match_operations(),
+        None => {}
+    }
+}
+
+/// What a yes promises of stubs over an engine, where there is one. It looks at each node once.
+fn yes_of_idle(idle: &Option<Engine>)
+    ensures { IfSome idle.now YesIsSent }
+{
+    match idle {
+        Some(engine) => a_yes_is_sent(engine),
         None => {}
     }
 }

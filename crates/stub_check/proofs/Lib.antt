@@ -2,3 +2,5 @@
 
 -- * A code that gets a yes appends what the kept one does, inside ensured space
 pub mod AsGood
+-- * A code gets one verdict, and no code gets none
+pub mod Deciding

@@ -6,4 +6,4 @@ mod same;
 mod verdicts;
 
 pub use verdicts::{Verdict, check, nodes_are_a_table};
-pub use laws::a_yes_is_as_good;
+pub use laws::{a_yes_is_as_good, verdicts_are_decided};
