@@ -1,6 +1,6 @@
 -- The answers of `check`: which of the texts of a file are stubs that send the messages of requests inside ensured space.
 use Rattle.std.specs.Prelude.{◌≡◌, ◌==◌, ◌&&◌, ◌||◌, ℕ, suc, ◌+◌, Bool, true, false, List, [], ◌∷◌, ◌++◌, take, drop, map, codes, decimal, Option, Some, None, slice_get, slice_index_or, if◌then◌else◌}
-use Rattle.std.specs.List.{position}
+use Rattle.std.specs.List.{position_from}
 use Rattle.std.specs.Str.{bytes_eq}
 use Rattle.mint.specs.Typed.{IsWellTyped}
 use Rattle.mint.specs.Values.{Val}
@@ -14,6 +14,7 @@ use Rattle.stub_read.specs.Stubs.{Begins, BeginsNone}
 use Rattle.stub_check.specs.declared.verdicts.Verdict.{Verdict}
 use Rattle.stub_check.specs.declared.verdicts.Verdict.TheVariants.{Yes, Meaning, Cover}
 use Rattle.stub_check.specs.Verdicts.{IsVerdict}
+use Rattle.aoi.specs.Plain.{PlainInterface}
 use Rattle.pres.specs.declared.ops.Op.{Op}
 use Rattle.pres.specs.Bindings.{Binding}
 use Rattle.json_shape.specs.Operations.{dotted}
@@ -53,9 +54,13 @@ used_of (receives used) = used
 
 -- ---- the answer to a part
 
--- the number of the first operation of a name
+-- the place, from 0, of the first operation of a full name
+abbrev pub place_of : List PlainInterface → List ℕ → List Op → Option ℕ
+place_of is name ops = position_from (λ (o : Op). bytes_eq (dotted is o) name) 0 ops
+
+-- the number of the first operation of a full name
 abbrev pub op_of : Binding → List ℕ → Option ℕ
-op_of b name = position (λ (o : Op). bytes_eq (dotted b.unit.interfaces o) name) b.ops
+op_of b name = place_of b.unit.interfaces name b.ops
 
 -- the node of an operation's request
 abbrev pub request_of : Binding → ℕ → ℕ

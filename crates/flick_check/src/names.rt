@@ -48,6 +48,8 @@ fn is_named(interfaces: &[Interface], op: &Op, name: &[u8]) -> bool
 
 /// The place of the first operation that has a full name.
 fn place_of(interfaces: &[Interface], ops: &[Op], name: &[u8]) -> Option<usize>
+    ensures place { result ≡ checked.place_of (map plain_interface interfaces.now) name.now ops.now }
+    ensures within { IfSome result (λ i. i < length ops.now) }
 {
     for (i, op) in ops.iter().enumerate() {
         if is_named(interfaces, op, name) {

@@ -4,3 +4,5 @@
 pub mod AsGood
 -- * A code gets one verdict, and no code gets none
 pub mod Deciding
+-- * The nodes of a table stand behind their children, one node after the other
+pub mod Nodes
