@@ -1,25 +1,21 @@
 -- Octets begin with one part of a file of stubs, or with none.
 use Rattle.std.proofs.Common.{◌≡◌, ◌⊎◌, inl, inr, ℕ, zero, suc, ◌+◌, ◌≤◌, Bool, true, false, ◌&&◌, eqb, List, [], ◌∷◌, ◌++◌, take, drop, length, map, Option, Some, None, refl, sym, ap, ◌∙◌, subst, arith, codes, length-append}
 use Rattle.std.specs.List.{starts_with}
-use Rattle.std.proofs.lemmas.List.{take-append-drop, length-take-le}
+use Rattle.std.proofs.lemmas.List.{length-take-le}
 use Rattle.std.specs.Prelude.{◌==◌, if◌then◌else◌}
 use Rattle.cast_stub.specs.declared.send.SendCode.{SendCode}
 use Rattle.cast_stub.specs.Block.{Block, code_seen}
 use Rattle.stub_print.specs.SendText.{send_text}
-use Rattle.stub_print.proofs.SendRead.{send_leads_tell}
 use Rattle.stub_read.specs.Reading.{begins}
 use Rattle.stub_read.specs.Stubs.{Begins, BeginsNone, Parts, parts_at}
-use Rattle.stub_read.proofs.Whole.{stub_text, text_then, told, text_of, nothing_read, found, otherwise}
+use Rattle.stub_read.proofs.Whole.{stub_text, text_then, begun, one_begun, told, text_of, nothing_read, found, otherwise}
 use Rattle.flick_check.specs.Checked.{Part, sends, receives, begins_stub, passed, IsPart, HasNoPart, used_of}
 
--- ---- the text of a stub, and what follows it
+-- ---- the text of a stub
 
 module _ (t n : List ℕ) (a : Block) (ss : List Block) (u : ℕ) (h : Begins n a ss u t) where
-  pub whole_text : t ≡ send_text n a ss ++ drop u t
-  whole_text = sym (take-append-drop u t) ∙ ap (λ (x : List ℕ). x ++ drop u t) h.is-text
-
   led_text : t ≡ stub_text n a ss (drop u t)
-  led_text = whole_text ∙ text_then n a ss (drop u t)
+  led_text = begun t n a ss u h ∙ text_then n a ss (drop u t)
 
   used_length : u ≡ length (send_text n a ss)
   used_length = sym (length-take-le u t h.within) ∙ ap length h.is-text
@@ -42,16 +38,15 @@ pub record AreOne (n m : List ℕ) (a b : Block) (ss ts : List Block) (u v : ℕ
 pub one_stub : (t n m : List ℕ) (a b : Block) (ss ts : List Block) (u v : ℕ) → Begins n a ss u t → Begins m b ts v t
     → AreOne n m a b ss ts u v
 one_stub t n m a b ss ts u v h k =
-    let same = send_leads_tell n m a b ss ts (drop u t) (drop v t) h.is-stub.name-is k.is-stub.name-is
-        (sym (led_text t n a ss u h) ∙ led_text t m b ts v k) in
+    let (name, code, subs) = one_begun t n m a b ss ts u v h k in
     record {
-      name = same.0;
-      code = same.1;
-      subs = same.2;
+      name = name;
+      code = code;
+      subs = subs;
       used = used_length t n a ss u h
-          ∙ ap (λ (x : List ℕ). length (send_text x a ss)) same.0
-          ∙ ap (λ (x : Block). length (send_text m x ss)) same.1
-          ∙ ap (λ (xs : List Block). length (send_text m b xs)) same.2
+          ∙ ap (λ (x : List ℕ). length (send_text x a ss)) name
+          ∙ ap (λ (x : Block). length (send_text m x ss)) code
+          ∙ ap (λ (xs : List Block). length (send_text m b xs)) subs
           ∙ sym (used_length t m b ts v k);
     }
 
@@ -59,7 +54,7 @@ one_stub t n m a b ss ts u v h k =
 
 pub no_part : (t : List ℕ) (p : Part) → IsPart t p → HasNoPart t → ⊥
 no_part t (sends n c u) is none =
-    none.1 n (code_seen c.ops) (map code_seen c.subs) (drop u t) is.is-stub (whole_text t n (code_seen c.ops) (map code_seen c.subs) u is)
+    none.1 n (code_seen c.ops) (map code_seen c.subs) (drop u t) is.is-stub (begun t n (code_seen c.ops) (map code_seen c.subs) u is)
 no_part t (receives u) is none = absurd (cc (is.0, none.0))
 
 -- how far a text after `recv` goes

@@ -61,6 +61,10 @@ pub read_line : {F : Type 0} (step : Line → List F → List F) (w : List ℕ) 
 unfolding read
 read_line step w ws rest fs gs h k e f = ap (read_by step) (rows_line w ws rest h k) ∙ ap (step (w ∷ ws)) e ∙ f
 
+nothing_read : {F : Type 0} (step : Line → List F → List F) → read step [] ≡ []
+unfolding read
+nothing_read step = refl
+
 -- ---- lines that code of both directions has
 
 -- what such lines do
@@ -176,14 +180,14 @@ module _ (K : Trees) (P : Type 0) (T : Texts K P) (step : Line → List (Frame K
         (frame a no_default [] [] ∷ frame b cs ps bs ∷ fs) (frame b cs ps (a ∷ bs) ∷ fs) refl (clean_numeral k, tt)
         (block a (ended (subs (suc k) bs rest)) no_default [] [] (frame b cs ps bs ∷ fs) others) (tells.at-sub k a b cs ps bs fs)
 
-    -- the lines after the first, and then what follows
-    abbrev pub body : Tree → List Tree → List ℕ → List ℕ
-    body a ss rest = text a (subs 0 ss (ended rest))
+    -- the lines after the first
+    abbrev pub body : Tree → List Tree → List ℕ
+    body a ss = text a (subs 0 ss (ended []))
 
-    read_body : (a : Tree) (ss : List Tree) (rest : List ℕ) → read step (body a ss rest) ≡ frame a no_default [] ss ∷ read step rest
-    read_body a ss rest =
-        block a (subs 0 ss (ended rest)) no_default [] ss (read step rest)
-        (read_subs ss 0 (ended rest) stop no_default [] (read step rest) (read_end rest (read step rest) refl))
+    read_body : (a : Tree) (ss : List Tree) → read step (body a ss) ≡ frame a no_default [] ss ∷ []
+    read_body a ss =
+        block a (subs 0 ss (ended [])) no_default [] ss []
+        (read_subs ss 0 (ended []) stop no_default [] [] (read_end [] [] (nothing_read step)))
 
     abbrev top_block : Frames → Tree
     top_block [] = stop
@@ -193,10 +197,10 @@ module _ (K : Trees) (P : Type 0) (T : Texts K P) (step : Line → List (Frame K
     top_subs [] = []
     top_subs (frame b cs ps ss ∷ fs) = ss
 
-    pub texts_tell : (n m : List ℕ) (a b : Tree) (ss others : List Tree) (r s : List ℕ) → HasNoEnd n → HasNoEnd m
-        → n ++ (10 ∷ body a ss r) ≡ m ++ (10 ∷ body b others s)
+    pub texts_tell : (n m : List ℕ) (a b : Tree) (ss others : List Tree) → HasNoEnd n → HasNoEnd m
+        → n ++ (10 ∷ body a ss) ≡ m ++ (10 ∷ body b others)
         → (n ≡ m) × (a ≡ b) × (ss ≡ others)
-    texts_tell n m a b ss others r s h k e =
-        let lines = same_names n m (body a ss r) (body b others s) h k e in
-        let frames = sym (read_body a ss r) ∙ ap (read step) lines.1 ∙ read_body b others s in
+    texts_tell n m a b ss others h k e =
+        let lines = same_names n m (body a ss) (body b others) h k e in
+        let frames = sym (read_body a ss) ∙ ap (read step) lines.1 ∙ read_body b others in
         (lines.0, ap top_block frames, ap top_subs frames)

@@ -161,4 +161,4 @@ mutual
 
 pub recv_texts_tell : RecvTextsTell
 recv_texts_tell n m a b subs others h k e =
-    texts_tell receives Get received_text step tells read_block n m a b subs others [] [] h k (ap (drop 5) e)
+    texts_tell receives Get received_text step tells read_block n m a b subs others h k (ap (drop 5) e)

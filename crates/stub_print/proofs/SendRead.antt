@@ -1,14 +1,13 @@
 -- The text of code that sends tells its name and the code, by mutual induction on code and cases.
 use Rattle.std.proofs.Common.{◌≡◌, ℕ, if◌then◌else◌, ℤ, List, [], ◌∷◌, drop, refl, ap, codes}
-use Rattle.kit_base.specs.Lines.{HasNoEnd}
 use Rattle.cast_stub.specs.declared.put.HeadField.{HeadField}
 use Rattle.cast_stub.specs.declared.put.HeadField.TheVariants.{Id, Remote, Local}
 use Rattle.cast_stub.specs.declared.put.Put.{Put}
 use Rattle.cast_stub.specs.declared.put.Put.TheVariants as put
 use Rattle.cast_stub.specs.Block.{Block, stop, ensure, ensure_row, align, chunk, row_copy, row_swap, row_wide, each, switch, if_there, call, patch, Cases, no_default, default, case}
 use Rattle.stub_print.specs.Laws.{SendTextsTell}
-use Rattle.stub_print.specs.SendText.{field_word, put_words, puts_text, block_text, cases_text, subs_text}
-use Rattle.stub_print.specs.Words.{numeral, path_word, order_word, line, ended}
+use Rattle.stub_print.specs.SendText.{field_word, put_words, puts_text, block_text, cases_text}
+use Rattle.stub_print.specs.Words.{numeral, path_word, order_word, ended}
 use Rattle.cast_stub.proofs.Directions.{sends}
 use Rattle.stub_print.proofs.BothTexts.{sent_text}
 use Rattle.stub_print.proofs.Frames.{frame, on_top, on_two, with_op, with_part, with_body, with_parts, with_cases, as_bodies, with_sub, read, read_line, Frame, Tells, read_end, read_parts, read_each, read_there, read_switch, read_default, read_case, texts_tell}
@@ -181,13 +180,6 @@ mutual
       read_case sends Put sent_text step tells n body cs rest ps ss fs (read_block body (cases_text cs rest) cs ps ss fs (read_cases cs
       rest ps ss fs e))
 
--- texts that are the same with what follows them
-pub send_leads_tell : (n m : List ℕ) (a b : Block) (subs others : List Block) (r s : List ℕ) → HasNoEnd n → HasNoEnd m
-    → line (codes "send") (n ∷ []) (block_text a (subs_text 0 subs (ended r)))
-    ≡ line (codes "send") (m ∷ []) (block_text b (subs_text 0 others (ended s)))
-    → (n ≡ m) × (a ≡ b) × (subs ≡ others)
-send_leads_tell n m a b subs others r s h k e =
-    texts_tell sends Put sent_text step tells read_block n m a b subs others r s h k (ap (drop 5) e)
-
 pub send_texts_tell : SendTextsTell
-send_texts_tell n m a b subs others h k e = send_leads_tell n m a b subs others [] [] h k e
+send_texts_tell n m a b subs others h k e =
+    texts_tell sends Put sent_text step tells read_block n m a b subs others h k (ap (drop 5) e)

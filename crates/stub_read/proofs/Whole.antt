@@ -3,6 +3,7 @@ use Rattle.std.proofs.Common.{◌≡◌, ◌≢◌, ℕ, zero, suc, ◌+◌, ◌
 use Rattle.std.specs.List.{prefix_len, starts_with}
 use Rattle.std.proofs.lemmas.Bool.{eqb-false}
 use Rattle.std.proofs.lemmas.List.Elements.{All-nil, All-cons}
+use Rattle.std.proofs.lemmas.List.{take-append-drop}
 use Rattle.std.proofs.lemmas.Slice.Eq.{starts_is}
 use Rattle.std.proofs.lemmas.Bool.Decides.{Decides-eqb}
 use Rattle.kit_base.specs.Lines.{HasNoEnd}
@@ -249,6 +250,25 @@ tells : (text n : List ℕ) (a : Block) (subs : List Block) (rest : List ℕ) �
     → text ≡ send_text n a subs ++ rest → told (parts_at text) ≡ Some (parts_of n (ops_of a) (map ops_of subs))
 tells text n a subs rest is e =
     ap (λ t. told (parts_at t)) (e ∙ text_then n a subs rest) ∙ ap told (parts_read n a subs rest is)
+
+-- a text is the text of a stub that it begins with, and what follows
+pub begun : (text n : List ℕ) (a : Block) (subs : List Block) (used : ℕ) → Begins n a subs used text
+    → text ≡ send_text n a subs ++ drop used text
+begun text n a subs used h = sym (take-append-drop used text) ∙ ap (λ (x : List ℕ). x ++ drop used text) h.is-text
+
+-- a text begins with one stub
+pub one_begun : (text n m : List ℕ) (a b : Block) (subs others : List Block) (used also : ℕ) → Begins n a subs used text
+    → Begins m b others also text → (n ≡ m) × (a ≡ b) × (subs ≡ others)
+one_begun text n m a b subs others used also h k =
+    let parts : parts_of n (ops_of a) (map ops_of subs) ≡ parts_of m (ops_of b) (map ops_of others) =
+        same_parts (parts_of n (ops_of a) (map ops_of subs)) (parts_of m (ops_of b) (map ops_of others))
+        (sym (tells text n a subs (drop used text) h.is-stub (begun text n a subs used h))
+        ∙ tells text m b others (drop also text) k.is-stub (begun text m b others also k)) in
+    (
+      ap (λ (x : Parts). x.0) parts,
+      sym (seen_ops a) ∙ ap (λ (x : Parts). code_seen x.1.0) parts ∙ seen_ops b,
+      sym (seen_subs subs) ∙ ap (λ (x : Parts). map code_seen x.1.1) parts ∙ seen_subs others,
+    )
 
 pub nothing_read : (text : List ℕ) → told (parts_at text) ≡ None → BeginsNone text
 nothing_read text none n a subs rest is e =
