@@ -52,7 +52,7 @@ answered_once e line t (p ∷ ps) [] a b (first, more, part, left) (none, other)
 answered_once e line t (p ∷ ps) (q ∷ qs) a b (first, more, part, says, rest, is) (second, others, also, tells, left, other) =
     let one = part_once e t p q first second part also says tells in
     let same : AreAnswered e (line + feeds (take (used_of q) t)) (drop (used_of q) t) ps more =
-        subst (λ (u : ℕ). AreAnswered e (line + feeds (take u t)) (drop u t) ps more) one.used rest in
+    subst (λ (u : ℕ). AreAnswered e (line + feeds (take u t)) (drop u t) ps more) one.used rest in
     is ∙ ap (λ (x : List ℕ). x ++ more) one.answers
     ∙ ap (λ (x : List ℕ). second ++ x)
     (answered_once e (line + feeds (take (used_of q) t)) (drop (used_of q) t) ps qs more others same left) ∙ sym other

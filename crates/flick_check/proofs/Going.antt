@@ -8,8 +8,9 @@ pub goes_on : (e : Coded) (text rest old new : List ℕ) (line used : ℕ) → G
 goes_on e text rest old new line used goes taken a (ps, is) =
     let left = subst (λ (u : ℕ). AreAnswered e (line + feeds (take u rest)) (drop u rest) ps a) (sym taken.length) is in
     let all : IsChecked e text (old ++ (taken.answer ++ a)) =
-        goes (taken.answer ++ a) (taken.part ∷ ps, (taken.answer, a, taken.is, taken.answers, left, refl)) in
-    let same : old ++ (taken.answer ++ a) ≡ new ++ a = sym (append_assoc old taken.answer a) ∙ ap (λ (x : List ℕ). x ++ a) (sym taken.puts) in
+    goes (taken.answer ++ a) (taken.part ∷ ps, (taken.answer, a, taken.is, taken.answers, left, refl)) in
+    let same : old ++ (taken.answer ++ a) ≡ new ++ a =
+    sym (append_assoc old taken.answer a) ∙ ap (λ (x : List ℕ). x ++ a) (sym taken.puts) in
     subst (IsChecked e text) same all
 
 pub goes_to_end : (e : Coded) (text rest old mid new : List ℕ) (line : ℕ) → Goes e text line rest old → HasNoPart rest → mid ≡ old

@@ -90,8 +90,11 @@ Starts t = ((p : Part) × IsStart t p) ⊎ HasNoPart t
 by_text : (t : List ℕ) → begins (codes "recv ") t ≡ false → (x : Parts) → told (parts_at t) ≡ Some x → (r : Bool)
     → starts_with eqb t (text_of x) ≡ r → Starts t
 by_text t other x e true is =
-    inl (sends x.0 (code_of x) (length (text_of x)), stub_start t x.0 (code_of x) (length (text_of x))
-    (found t (text_of x) x (starts_with eqb t (text_of x)) e refl refl is))
+    inl (
+      sends x.0 (code_of x) (length (text_of x)),
+      stub_start t x.0 (code_of x) (length (text_of x))
+          (found t (text_of x) x (starts_with eqb t (text_of x)) e refl refl is),
+    )
 by_text t other x e false is = inr (other, otherwise t (text_of x) x (starts_with eqb t (text_of x)) e refl refl is)
 
 by_parts : (t : List ℕ) → begins (codes "recv ") t ≡ false → (q : Option Parts) → told (parts_at t) ≡ q → Starts t

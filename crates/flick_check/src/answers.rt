@@ -71,17 +71,18 @@ fn put_answer(alloc: Global, engine: &Engine, stub: &Stub, out: &mut Octets) -> 
 }
 
 /// What is said of a code beside the code of an operation.
-fn verdict_of(
-    alloc: Global,
-    engine: &Engine,
-    op: u32,
-    code: &SendCode,
-) -> Result<Verdict, NoMemory>
+fn verdict_of(alloc: Global, engine: &Engine, op: u32, code: &SendCode) -> Result<Verdict, NoMemory>
     requires { op < length engine.now.binding.ops }
     ensures { IfOk result (λ v. IsVerdictOf engine.now op code.now v) }
 {
     let node = request_of(engine, op);
-    check(alloc, engine.send_code(op), code, engine.bound().mint(), node)
+    check(
+        alloc,
+        engine.send_code(op),
+        code,
+        engine.bound().mint(),
+        node,
+    )
 }
 
 /// The words before the name of an operation.

@@ -64,7 +64,11 @@ pub(crate) fn op_of(bound: &Bound, name: &[u8]) -> Result<Option<u32>, NoMemory>
     ensures value { IfOk result (λ o. o ≡ checked.op_of bound.now name.now) }
     ensures within { IfOk result (λ o. IfSome o (λ op. op < length bound.now.ops)) }
 {
-    match place_of(bound.unit().interfaces().as_slice(), bound.ops().as_slice(), name) {
+    match place_of(
+        bound.unit().interfaces().as_slice(),
+        bound.ops().as_slice(),
+        name,
+    ) {
         Some(place) => match u32::try_from(place) {
             Ok(number) => Ok(Some(number)),
             Err(_) => Err(NoMemory),

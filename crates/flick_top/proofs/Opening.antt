@@ -13,5 +13,5 @@ outputs_begin made words files left left' held held' source source' status old n
     is all only input reported =
     let (begun, rest, parts, wrote) = done.prefix input reported in
     let same = one_output (codes_of made) (codes_of made) words files task other f g (λ shown. refl)
-        (λ checks. only checks ∙ done.engine) is comes all answered input in
+    (λ checks. only checks ∙ done.engine) is comes all answered input in
     (begun, rest, ap (λ (o : Out). o.octets) same ∙ parts, wrote)

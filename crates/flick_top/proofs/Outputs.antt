@@ -270,7 +270,8 @@ shown_alike (Ok v) t u p q = no_feed t u (writing_task (show_text v) [] None) re
 shown_alike (Err report) t u p q = no_feed t u (report_task report None) refl p q
 
 over_files : (codes others : List Stub) (command : Option Command) (words : List (List ℕ)) (files : Files) (t u : Task)
-    → (ShowsCodes command → codes ≡ others) → (ChecksStubs command → t.engine ≡ u.engine) → TaskOf codes command words files t → TaskOf others command words files u → AreTasks t u
+    → (ShowsCodes command → codes ≡ others) → (ChecksStubs command → t.engine ≡ u.engine) → TaskOf codes command words files t
+    → TaskOf others command words files u → AreTasks t u
 over_files codes others None words files t u shown one p q = no_feed t u usage_task refl p q
 over_files codes others (Some commands.Help) words files t u shown one p q = no_feed t u (report_task reports.Help None) refl p q
 over_files codes others (Some commands.Version) words files t u shown one p q = no_feed t u (report_task reports.Version None) refl p q

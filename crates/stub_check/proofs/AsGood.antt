@@ -60,7 +60,7 @@ flat_good : (nodes : List Node) (id : ℕ) (kept code : SendCode) → IsTable no
 flat_good nodes id kept code table covered one passes =
     let means = flat_means nodes id kept code table one in
     let meant : IsMeant nodes id code = λ h v head typed.
-        subst IsThere (sym (means h v head typed)) (there (sent_steps kept h v) (covered h v head typed)) in
+    subst IsThere (sym (means h v head typed)) (there (sent_steps kept h v) (covered h v head typed)) in
     record { means = means; covered = covers_is_covered nodes id code table meant passes }
 
 -- ---- either

@@ -5,5 +5,5 @@ mod laws;
 mod same;
 mod verdicts;
 
-pub use verdicts::{Verdict, check, nodes_are_a_table};
 pub use laws::{a_yes_is_as_good, verdicts_are_decided};
+pub use verdicts::{Verdict, check, nodes_are_a_table};

@@ -90,11 +90,11 @@ half_by c false e h = go (leb 97 c) (leb c 102) refl refl where
   go x true p q = grind (arith, nat_tests, q)
   go x false p q =
       let none : is_hex c ≡ (x && false) = ap (λ b. b || (leb 97 c && leb c 102)) (digit_not (leb 48 c)) ∙ ap (λ b. b && leb c 102) p
-          ∙ ap (λ b. x && b) q in
+      ∙ ap (λ b. x && b) q in
       absurd (never x (sym none ∙ h)) where
-    never : (x : Bool) → (x && false) ≡ true → ⊥
-    never true e = absurd cc
-    never false e = absurd cc
+        never : (x : Bool) → (x && false) ≡ true → ⊥
+        never true e = absurd cc
+        never false e = absurd cc
 
 half_small : Always IsHalf hex_digit_at
 half_small [] = tt

@@ -261,10 +261,9 @@ pub one_begun : (text n m : List ℕ) (a b : Block) (subs others : List Block) (
     → Begins m b others also text → (n ≡ m) × (a ≡ b) × (subs ≡ others)
 one_begun text n m a b subs others used also h k =
     let parts : parts_of n (ops_of a) (map ops_of subs) ≡ parts_of m (ops_of b) (map ops_of others) =
-        same_parts (parts_of n (ops_of a) (map ops_of subs)) (parts_of m (ops_of b) (map ops_of others))
-        (sym (tells text n a subs (drop used text) h.is-stub (begun text n a subs used h))
-        ∙ tells text m b others (drop also text) k.is-stub (begun text m b others also k)) in
-    (
+    same_parts (parts_of n (ops_of a) (map ops_of subs)) (parts_of m (ops_of b) (map ops_of others))
+    (sym (tells text n a subs (drop used text) h.is-stub (begun text n a subs used h))
+    ∙ tells text m b others (drop also text) k.is-stub (begun text m b others also k)) in (
       ap (λ (x : Parts). x.0) parts,
       sym (seen_ops a) ∙ ap (λ (x : Parts). code_seen x.1.0) parts ∙ seen_ops b,
       sym (seen_subs subs) ∙ ap (λ (x : Parts). map code_seen x.1.1) parts ∙ seen_subs others,
