@@ -10,7 +10,8 @@ use Rattle.stub_check.proofs.Deciding.{verdict_once, verdict_somehow}
 use Rattle.pres.specs.Bindings.{Binding}
 use Rattle.stub_codes.specs.declared.stub.Stub.{Stub}
 use Rattle.stub_codes.specs.Stubs.{Coded}
-use Rattle.flick_check.specs.Checked.{Part, sends, receives, IsPart, HasNoPart, used_of, op_of, request_of, IsVerdictBeside, verdict_words, answer_line, IsAnswer, IsPartAnswer, feeds, last_line, AreAnswered, IsCheckedFrom}
+use Rattle.flick_check.specs.Files.{Part, sends, receives, IsPart, HasNoPart, used_of, feeds}
+use Rattle.flick_check.specs.Checked.{op_of, request_of, IsVerdictBeside, verdict_words, answer_line, IsAnswer, IsPartAnswer, last_line, AreAnswered, IsCheckedFrom}
 use Rattle.flick_check.specs.Laws.{IsCheckedOnce, IsCheckedSomehow}
 use Rattle.flick_check.proofs.Parts.{AreOne, one_stub, not_received, no_part, IsStart, start_somehow}
 

@@ -1,7 +1,8 @@
 -- One part more is answered.
 use Rattle.std.proofs.Common.{◌≡◌, ℕ, ◌+◌, List, [], ◌∷◌, ◌++◌, take, drop, refl, sym, ap, ◌∙◌, subst, append_assoc, append-nil}
 use Rattle.stub_codes.specs.Stubs.{Coded}
-use Rattle.flick_check.specs.Checked.{HasNoPart, used_of, feeds, last_line, AreAnswered, IsCheckedFrom, IsChecked, IsTaken, Goes}
+use Rattle.flick_check.specs.Files.{HasNoPart, used_of, feeds}
+use Rattle.flick_check.specs.Checked.{last_line, AreAnswered, IsCheckedFrom, IsChecked, IsTaken, Goes}
 
 pub goes_on : (e : Coded) (text rest old new : List ℕ) (line used : ℕ) → Goes e text line rest old → IsTaken e rest used old new
     → Goes e text (line + feeds (take used rest)) (drop used rest) new

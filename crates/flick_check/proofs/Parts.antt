@@ -9,7 +9,7 @@ use Rattle.stub_print.specs.SendText.{send_text}
 use Rattle.stub_read.specs.Reading.{begins}
 use Rattle.stub_read.specs.Stubs.{Begins, BeginsNone, Parts, parts_at}
 use Rattle.stub_read.proofs.Whole.{stub_text, text_then, begun, one_begun, told, text_of, nothing_read, found, otherwise}
-use Rattle.flick_check.specs.Checked.{Part, sends, receives, begins_stub, passed, IsPart, HasNoPart, used_of}
+use Rattle.flick_check.specs.Files.{Part, sends, receives, begins_stub, passed, IsPart, HasNoPart, used_of}
 
 -- ---- the text of a stub
 

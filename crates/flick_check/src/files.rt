@@ -3,17 +3,18 @@
 ghost use Rattle.std.specs.Prelude.{◌≡◌, ◌≤◌, ◌<◌, length};
 ghost use Rattle.stub_read.specs.Reading.{begins};
 ghost use Rattle.flick_check.specs.Checked as checked;
+ghost use Rattle.flick_check.specs.Files as files;
 
 /// Whether octets begin as a text of stub code does.
 fn begins_stub(text: &[u8]) -> bool
-    ensures { result ≡ checked.begins_stub text.now }
+    ensures { result ≡ files.begins_stub text.now }
 {
     text.starts_with(b"send ") || text.starts_with(b"recv ")
 }
 
 /// How many octets stand before the next line that begins as a text of stub code does, or before the end.
 pub(crate) fn passed(text: &[u8]) -> usize
-    ensures value { result ≡ checked.passed text.now }
+    ensures value { result ≡ files.passed text.now }
     ensures within { result ≤ length text.now }
 {
     for i in 0..text.len() {
@@ -26,7 +27,7 @@ pub(crate) fn passed(text: &[u8]) -> usize
 
 /// How many lines end in octets.
 pub(crate) fn feeds(text: &[u8]) -> usize
-    ensures value { result ≡ checked.feeds text.now }
+    ensures value { result ≡ files.feeds text.now }
     ensures within { result ≤ length text.now }
 {
     let mut sum = 0;
