@@ -64,10 +64,10 @@ passed_some (x ∷ xs) e = omega arith
 
 passed_within : (t : List ℕ) → passed t ≤ length t
 passed_within [] = omega arith
-passed_within (x ∷ xs) = go (x == 10 && begins_stub xs) where
-  go : (b : Bool) → suc (if b then 0 else passed xs) ≤ suc (length xs)
-  go true = omega arith
-  go false = omega (arith, passed_within xs)
+passed_within (x ∷ xs) = go (x == 10 && begins_stub xs) (passed_within xs) where
+  go : (b : Bool) → passed xs ≤ length xs → suc (if b then 0 else passed xs) ≤ suc (length xs)
+  go true h = omega arith
+  go false h = omega (arith, h)
 
 pub record IsStart (t : List ℕ) (p : Part) : Type 0 where
   pub is : IsPart t p

@@ -1,5 +1,5 @@
 -- What is read has the numbers of code, by induction on levels and on lists.
-use Rattle.std.proofs.Common.{◌≡◌, ℕ, zero, suc, ◌+◌, ◌-◌, ◌*◌, ◌^◌, ◌<◌, ◌≤◌, Bool, true, false, ◌&&◌, ◌||◌, cond, leb, ℤ, pos, negsuc, List, [], ◌∷◌, length, drop, Option, Some, None, refl, sym, ap, subst, arith, codes}
+use Rattle.std.proofs.Common.{◌≡◌, ℕ, zero, suc, ◌+◌, ◌-◌, ◌*◌, ◌^◌, ◌<◌, ◌≤◌, Bool, true, false, ◌&&◌, ◌||◌, cond, leb, ℤ, pos, negsuc, List, [], ◌∷◌, length, drop, Option, Some, None, refl, sym, ap, ◌∙◌, subst, arith, codes}
 use Rattle.std.proofs.lemmas.Bool.Decides.{nat_tests}
 use Rattle.wire_def.specs.declared.head.Order.{Order}
 use Rattle.cast_stub.specs.declared.put.Put.{Put}
@@ -24,12 +24,15 @@ use Rattle.stub_read.proofs.Nesting.{IfRead, Always, Any, read_then, mapped_has,
 
 digits_below : (most n : ℕ) → n ≤ most → Always (λ m. m ≤ most) (digits_on most n)
 digits_below most n h [] = h
-digits_below most n h (c ∷ cs) = go (is_digit c) (leb (10 * n + (c - 48)) most) refl where
-  go : (d b : Bool) → leb (10 * n + (c - 48)) most ≡ b
-      → IfRead (λ m. m ≤ most) (cond d (cond b (digits_on most (10 * n + (c - 48)) cs) None) (Some (n, c ∷ cs)))
-  go true true e = digits_below most (10 * n + (c - 48)) (grind (arith, nat_tests, e)) cs
-  go true false e = tt
-  go false b e = h
+digits_below most n h (c ∷ cs) =
+    go (is_digit c) (leb (10 * n + (c - 48)) most) refl
+    (λ e. digits_below most (10 * n + (c - 48)) (grind (arith, nat_tests, e)) cs) where
+      go : (d b : Bool) → leb (10 * n + (c - 48)) most ≡ b
+          → (leb (10 * n + (c - 48)) most ≡ true → IfRead (λ m. m ≤ most) (digits_on most (10 * n + (c - 48)) cs))
+          → IfRead (λ m. m ≤ most) (cond d (cond b (digits_on most (10 * n + (c - 48)) cs) None) (Some (n, c ∷ cs)))
+      go true true e again = again e
+      go true false e again = tt
+      go false b e again = h
 
 words_read : Always IsWord (digits_on most_word 0)
 unfolding most_word
