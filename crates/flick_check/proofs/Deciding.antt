@@ -48,8 +48,8 @@ part_once e t (receives u) (receives v) a b is also p q = record { used = is.1 �
 answered_once : (e : Coded) (line : ℕ) (t : List ℕ) (ps qs : List Part) (a b : List ℕ) → AreAnswered e line t ps a
     → AreAnswered e line t qs b → a ≡ b
 answered_once e line t [] [] a b (none, is) (also, other) = is ∙ sym other
-answered_once e line t [] (q ∷ qs) a b (none, is) (first, more, part, left) = absurd (no_part t q part none)
-answered_once e line t (p ∷ ps) [] a b (first, more, part, left) (none, other) = absurd (no_part t p part none)
+answered_once e line t [] (q ∷ qs) a b (none, is) (first, more, part, says, left, other) = absurd (no_part t q part none)
+answered_once e line t (p ∷ ps) [] a b (first, more, part, says, left, is) (none, other) = absurd (no_part t p part none)
 answered_once e line t (p ∷ ps) (q ∷ qs) a b (first, more, part, says, rest, is) (second, others, also, tells, left, other) =
     let one = part_once e t p q first second part also says tells in
     let same : AreAnswered e (line + feeds (take (used_of q) t)) (drop (used_of q) t) ps more =
@@ -76,16 +76,23 @@ part_somehow : (e : Coded) (p : Part) → (a : List ℕ) × IsPartAnswer e p a
 part_somehow e (sends n c u) = answer_somehow e n c (op_of e.binding n)
 part_somehow e (receives u) = ([], refl)
 
+-- what answers octets that begin with a part or with none, if what follows a part has answers
+answered_by : (e : Coded) (line : ℕ) (t : List ℕ) → ((p : Part) × IsStart t p) ⊎ HasNoPart t
+    → ((p : Part) → IsStart t p → (a : List ℕ) × IsCheckedFrom e (line + feeds (take (used_of p) t)) (drop (used_of p) t) a)
+    → (a : List ℕ) × IsCheckedFrom e line t a
+answered_by e line t (inr none) after = (last_line line t, ([], (none, refl)))
+answered_by e line t (inl (p, start)) after =
+    let (first, says) = part_somehow e p in
+    let (more, (ps, rest)) = after p start in
+    (first ++ more, (p ∷ ps, (first, more, start.is, says, rest, refl)))
+
 answered_somehow : (e : Coded) (k line : ℕ) (t : List ℕ) → length t ≤ k → (a : List ℕ) × IsCheckedFrom e line t a
-answered_somehow e k line t h = go k h (start_somehow t) where
-  go : (k : ℕ) → length t ≤ k → ((p : Part) × IsStart t p) ⊎ HasNoPart t → (a : List ℕ) × IsCheckedFrom e line t a
-  go k h (inr none) = (last_line line t, ([], (none, refl)))
-  go zero h (inl (p, start)) = absurd (omega (arith, h, start.some, start.within))
-  go (suc k) h (inl (p, start)) =
-      let shorter : length (drop (used_of p) t) ≤ k = omega (arith, h, start.some, start.within, length-drop (used_of p) t) in
-      let (first, says) = part_somehow e p in
-      let (more, ps, rest) = answered_somehow e k (line + feeds (take (used_of p) t)) (drop (used_of p) t) shorter in
-      (first ++ more, (p ∷ ps, (first, more, start.is, says, rest, refl)))
+answered_somehow e zero line t h =
+    answered_by e line t (start_somehow t) (λ p start. absurd (omega (arith, h, start.some, start.within)))
+answered_somehow e (suc k) line t h =
+    answered_by e line t (start_somehow t)
+    (λ p start. answered_somehow e k (line + feeds (take (used_of p) t)) (drop (used_of p) t)
+    (omega (arith, h, start.some, start.within, length-drop (used_of p) t)))
 
 pub checked_somehow : IsCheckedSomehow
 checked_somehow e text = answered_somehow e (length text) 1 text (omega arith)
