@@ -44,9 +44,13 @@ class Checking:
         place = self.places.get(stub.name)
         if place is None:
             return "! op"
-        own, request = self.own(place), self.requests[place]
-        if (own.code, own.subs) == (stub.code, stub.subs):
-            return "yes"
+        own = self.own(place)
+        return "yes" if (own.code, own.subs) == (stub.code, stub.subs) else self.judged_anew(stub)
+
+    def judged_anew(self, stub):
+        """The same of a stub of an operation that is not its own."""
+        place = self.places[stub.name]
+        request = self.requests[place]
         found = flat_or_none(request.nodes, request.id, stub)
         if found is None or found != self.flat(place):
             return "! meaning"
