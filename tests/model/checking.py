@@ -4,13 +4,14 @@ As all of the model it is written from docs/, with nothing of the crates in it. 
 them: which code they have is not fixed. Without them those of stub_samples.py are taken, which have the same flats.
 """
 from counting import requests_of
-from stub_checks import TooMuch, covers, flat_or_none
+from stub_checks import Rooms, TooMuch, covers, flat_or_none
 from stub_samples import send_stub
 from stub_texts import NoStub, Reading
 
 LONGEST = 8_388_608
 BEGINS = ("send ", "recv ")
 UNKNOWN = "yes or cover"  # of a text whose runs are too many for the model
+MANY = 500_000  # runs of operations: a text that takes more may be out of memory
 
 
 def refusal_of(octets):
@@ -23,8 +24,7 @@ class Checking:
 
     def __init__(self, back, interfaces, kept=None):
         self.requests, self.kept, self.flats = requests_of(back, interfaces), kept, {}
-        self.back = back
-        self.places = {}
+        self.back, self.places, self.runs = back, {}, 0  # the runs of the stub that was judged last
         for place, request in enumerate(self.requests):
             self.places.setdefault(request.name, place)
 
@@ -39,8 +39,13 @@ class Checking:
             self.flats[place] = flat_or_none(self.requests[place].nodes, self.requests[place].id, self.own(place))
         return self.flats[place]
 
+    def is_dear(self):
+        """Whether what was judged last may be out of memory."""
+        return self.runs > MANY
+
     def verdict(self, stub):
         """What is said of a stub before its name."""
+        self.runs = 0
         place = self.places.get(stub.name)
         if place is None:
             return "! op"
@@ -54,10 +59,13 @@ class Checking:
         found = flat_or_none(request.nodes, request.id, stub)
         if found is None or found != self.flat(place):
             return "! meaning"
+        known = Rooms(request.nodes)
         try:
-            return "yes" if covers(request.nodes, request.id, stub) else "! cover"
+            return "yes" if covers(request.nodes, request.id, stub, known) else "! cover"
         except TooMuch:
             return UNKNOWN
+        finally:
+            self.runs = known.all_runs
 
     def answers(self, octets):
         """The lines that are written over a file of stubs."""

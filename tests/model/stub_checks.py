@@ -324,20 +324,25 @@ def is_plain(code):
 
 
 class Rooms(Places):
-    """Runs of code with rooms. What a body makes of rooms is kept; `runs` counts the runs of operations that are made."""
+    """Runs of code with rooms. What a body makes of rooms is kept; `runs` counts the runs of operations that are made, and
+    `all_runs` those of one who keeps nothing, but ends turns where rooms come back."""
 
     def __init__(self, nodes):
         super().__init__(nodes)
-        self.made, self.plain, self.runs = {}, {}, 0
+        self.made, self.plain, self.runs, self.all_runs = {}, {}, 0, 0
 
     def run(self, spot, code, rooms):
         """The rooms behind code, from those before it."""
         key = id(code), spot, rooms
-        if key not in self.made:
+        if key in self.made:
+            self.all_runs += self.made[key][1]
+        else:
+            before = self.all_runs
             try:
-                self.made[key] = self.run_ops(spot, code, rooms), code
+                found = self.run_ops(spot, code, rooms)
             except Refused:
-                self.made[key] = None, code
+                found = None
+            self.made[key] = found, self.all_runs - before, code
         if self.made[key][0] is None:
             raise Refused("a body that lacks room")
         return self.made[key][0]
@@ -350,6 +355,7 @@ class Rooms(Places):
     def run_ops(self, spot, code, rooms):
         nodes, credit = self.nodes, None
         self.runs += len(code)
+        self.all_runs += len(code)
         if self.runs > MOST_RUNS:
             raise TooMuch
         for (word, *words), body in code:
@@ -412,6 +418,7 @@ class Rooms(Places):
         for _ in range(most):
             rooms = f(rooms)
             self.runs += 1
+            self.all_runs += 1
             if rooms in seen:
                 break
             seen.add(rooms)
@@ -419,9 +426,10 @@ class Rooms(Places):
         return low
 
 
-def covers(nodes, id, stub):
+def covers(nodes, id, stub, known=None):
+    known = known or Rooms(nodes)
     try:
-        spots, known = spots_of(nodes, id, stub), Rooms(nodes)
+        spots = spots_of(nodes, id, stub)
         known.run(id, stub.code, only(0, 0))
         for spot, code in zip(spots, stub.subs):
             known.run(spot, code, all_zero(ALL))
