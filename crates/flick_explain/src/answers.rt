@@ -6,6 +6,7 @@ use crate::fronts::bound_of;
 use crate::inputs::Inputs;
 use crate::known::Known;
 use crate::shelved::Shelved;
+use crate::tables::{tell_all, telling_of};
 use kit_base::limits::{LONGEST_LINE, MOST_INPUT};
 use kit_base::{LineErr, Lines, NoMemory, Shelf, Sink, Source, Words, write_whole};
 use pres::Bound;
@@ -16,10 +17,12 @@ const USAGE: &[u8] = b"usage: flick_explain COMMAND FRONT BACK FILE [--lines INP
 \x20      flick_explain serve FRONT BACK FILE REPLIES [--lines INPUT]\n\
 \x20      flick_explain show FRONT FILE\n\
 \x20      flick_explain make FRONT BACK FILE NUMBER N\n\
+\x20      flick_explain --octets FRONT BACK FILE [--reply OPERATION]\n\
 \n\
 The words before --lines are those of a run of flick. Standard input is what the run wrote.\n\
 For each line that begins with `?` or `!` it says where and why.\n\
-INPUT is the file that the run read; with it each `!` is said of its line.\n";
+INPUT is the file that the run read; with it each `!` is said of its line.\n\
+With --octets standard input has messages in hexadecimal digits, and it writes what each octet is.\n";
 
 /// Says of each refusal of a run where and why, and answers a status.
 pub fn explain<F: Shelf, S: Source, K: Sink>(
@@ -42,6 +45,9 @@ fn explained<F: Shelf, S: Source, K: Sink>(
     input: &mut S,
     output: &mut K,
 ) -> Result<(), Ended> {
+    if let Some(telling) = telling_of(words) {
+        return tell_all(alloc, &telling, shelf, input, output);
+    }
     let Some(run) = run_of(words) else {
         write(output, USAGE)?;
         return Err(Ended::Usage);
@@ -70,7 +76,11 @@ fn over<S: Source, K: Sink>(
 }
 
 /// The file bound to the back end of the run, where it is accepted.
-fn binding(alloc: Global, run: &Run<'_>, text: Option<&[u8]>) -> Result<Option<Bound>, NoMemory> {
+pub fn binding(
+    alloc: Global,
+    run: &Run<'_>,
+    text: Option<&[u8]>,
+) -> Result<Option<Bound>, NoMemory> {
     match text {
         Some(text) => match bound_of(alloc, run.front, run.back, text)? {
             Ok(bound) => Ok(Some(bound)),
@@ -81,7 +91,7 @@ fn binding(alloc: Global, run: &Run<'_>, text: Option<&[u8]>) -> Result<Option<B
 }
 
 /// Writes what is said.
-fn write<K: Sink>(output: &mut K, text: &[u8]) -> Result<(), Ended> {
+pub fn write<K: Sink>(output: &mut K, text: &[u8]) -> Result<(), Ended> {
     match write_whole(output, text) {
         Ok(()) => Ok(()),
         Err(_) => Err(Ended::Sink),

@@ -161,7 +161,7 @@ fn make_of<'a>(verb: &Octets, front: &Octets, back: &Octets, path: &'a Octets) -
 }
 
 /// The run of the words of a language and a format.
-fn run_in<'a>(verb: Verb, front: &Octets, back: &Octets, path: &'a Octets) -> Option<Run<'a>> {
+pub fn run_in<'a>(verb: Verb, front: &Octets, back: &Octets, path: &'a Octets) -> Option<Run<'a>> {
     let front = front_of(front.as_slice())?;
     let back = wire_of(back.as_slice())?.back();
     Some(run_by(verb, front, back, path))

@@ -7,6 +7,8 @@ use kit_base::NoMemory;
 pub enum Ended {
     /// The words name no run.
     Usage = 2,
+    /// The file was refused, or has no such operation.
+    Refused = 3,
     /// Standard input failed.
     Source = 4,
     /// Standard output failed.

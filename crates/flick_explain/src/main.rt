@@ -32,6 +32,7 @@ mod scalars;
 mod shelved;
 mod statements;
 mod syntax;
+mod tables;
 mod text;
 mod tokens;
 mod unreplies;

@@ -85,7 +85,11 @@ fn may_be(bound: Count, kind: Kind, long: bool) -> bool
     match bound {
         Count::Exactly(m) => {
             let many = u64::from(m) * u64::from(units_in(kind));
-            if long { many > MOST_UNITS } else { many <= MOST_UNITS }
+            if long {
+                many > MOST_UNITS
+            } else {
+                many <= MOST_UNITS
+            }
         }
         Count::AtMost(_) | Count::Any => true,
     }

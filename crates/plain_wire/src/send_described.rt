@@ -1,6 +1,6 @@
 //! Numbers in items of Mach messages, and the descriptors of rows and texts, as octets.
 
-ghost use Rattle.std.specs.Prelude.{◌<◌, ◌++◌, replicate};
+ghost use Rattle.std.specs.Prelude.{◌≤◌, ◌++◌, replicate};
 ghost use Rattle.kit_base.specs.Bytes.{le};
 ghost use Rattle.mint.specs.Kinds.{Allows};
 ghost use Rattle.mint.specs.Types.{number};

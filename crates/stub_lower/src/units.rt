@@ -1,6 +1,6 @@
 //! What the descriptors of Mach messages say of a kind of number.
 
-ghost use Rattle.std.specs.Prelude.{◌≡◌, ◌<◌, ◌≤◌, IfOk};
+ghost use Rattle.std.specs.Prelude.{◌≡◌, ◌≤◌, IfOk};
 ghost use Rattle.kit_base.specs.Bytes.{le};
 ghost use Rattle.mint.specs.Types.{number};
 ghost use Rattle.wire_def.specs.Lone.{scalar_word, short_word, unit_bits, unit_name};

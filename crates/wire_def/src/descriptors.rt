@@ -73,7 +73,8 @@ pub fn has_long(bound: Count, kind: Kind) -> bool
     ensures { result ≡ is_long bound (number kind) }
 {
     match bound {
-        Count::Exactly(m) | Count::AtMost(m) => u64::from(m) * u64::from(units_in(kind)) > MOST_UNITS,
+        Count::Exactly(m) | Count::AtMost(m) => u64::from(m) * u64::from(units_in(kind))
+            > MOST_UNITS,
         Count::Any => true,
     }
 }

@@ -116,8 +116,8 @@ pub run_block-loop-op-preserved : goal.run_block-loop-op-preserved
 run_block-loop-op-preserved t c = record {
   left = block_step _ _ _ _ _ c.op-item.result _ _ _ c.loop-op.invariant.left c.loop-op-test.true c.op-item.is c.in_ok-run_op.ensures.ok;
   short = λ h.
-    let short : length c.octets.result.now ≤ longest_message = omega (arith, c.if-octets-gt-LONGEST_MESSAGE.false) in
-    rw c.octets.ensures at short;
+      let short : length c.octets.result.now ≤ longest_message = omega (arith, c.if-octets-gt-LONGEST_MESSAGE.false) in
+      rw c.octets.ensures at short;
 }
 
 pub run_block-returns-then-octets-gt-LONGEST_MESSAGE-clause-err : goal.run_block-returns-then-octets-gt-LONGEST_MESSAGE-clause-err
