@@ -158,19 +158,21 @@ text-alone p f left faults held held' buf none ready coded text =
       of : Option Job → Task
       of feed = record { text = p.text; status = p.status; before = []; feed = feed; engine = engine_of p }
 
-      ends : (p.status ≡ s.Done) ⊎ (p.status ≡ s.File)
+      ends : EndsAs None p.status
       ends = subst (λ (j : Option Job). EndsAs j p.status) none ready
 
       wrote : Appends held held' (p.text ++ [])
       wrote = subst (λ (o : List ℕ). Appends held held' o) (sym (append-nil p.text)) text
 
-      other_end : (status : Status) → (status ≡ s.Done) ⊎ (status ≡ s.File) → number_of status ≡ 4 → ⊥
+      other_end : (status : Status) → EndsAs None status → number_of status ≡ 4 → ⊥
       other_end status (inl e) four = absurd (omega (arith, ap number_of e, four))
-      other_end status (inr e) four = absurd (omega (arith, ap number_of e, four))
+      other_end status (inr (inl e)) four = absurd (omega (arith, ap number_of e, four))
+      other_end status (inr (inr e)) four = absurd (omega (arith, ap number_of e, four))
 
-      no_length : (status : Status) → (status ≡ s.Done) ⊎ (status ≡ s.File) → number_of status ≡ 8 → ⊥
+      no_length : (status : Status) → EndsAs None status → number_of status ≡ 8 → ⊥
       no_length status (inl e) eight = absurd (omega (arith, ap number_of e, eight))
-      no_length status (inr e) eight = absurd (omega (arith, ap number_of e, eight))
+      no_length status (inr (inl e)) eight = absurd (omega (arith, ap number_of e, eight))
+      no_length status (inr (inr e)) eight = absurd (omega (arith, ap number_of e, eight))
 
 -- a text of which a prefix was written, since the sink failed
 pub text-broken : (p : Prepared) (f : Answering) (left : Input) (faults : ℕ) (held held' : Held) (buf : Buf)

@@ -3,14 +3,14 @@ use Rattle.std.proofs.Common.{◌≡◌, ℕ, ◌+◌, ◌<◌, ◌≤◌, Bool,
 use Rattle.std.specs.Prelude.{nat_le, MatchBool, Option, Some, Err}
 use Rattle.std.proofs.lemmas.List.{take_all, length-take-le}
 use Rattle.std.proofs.lemmas.Bool.Decides.{nat_tests}
-use Rattle.kit_base.specs.Limits.{longest_file, longest_replies}
+use Rattle.kit_base.specs.Limits.{longest_file, longest_replies, longest_stubs}
 use Rattle.kit_base.specs.Memory.{HasFile}
 use Rattle.stub_codes.specs.Stubs.{Coded}
 use Rattle.idl_lex.specs.declared.kinds.Front.{Front}
-use Rattle.flick_top.specs.declared.report.Report.TheVariants.{TooLarge, LargeReplies}
+use Rattle.flick_top.specs.declared.report.Report.TheVariants.{TooLarge, LargeReplies, LargeStubs}
 use Rattle.flick_top.specs.File.{FileSays}
 use Rattle.flick_top.specs.Fronts.{Read, UnitOf}
-use Rattle.flick_top.specs.Dispatch.{Files, ServesText, ServesFile}
+use Rattle.flick_top.specs.Dispatch.{Files, ServesText, ServesFile, ChecksText, ChecksFile}
 use Rattle.flick_top.specs.Task.{Task, report_task}
 
 -- what is so of a text within a limit, or else this
@@ -47,3 +47,13 @@ served-decides d shelf files path part task has e h =
     subst (λ (c : Option (List ℕ)). ServesFile d c task) (sym found)
     (of_prefix longest_replies (λ t. ServesText d t task) (task ≡ report_task LargeReplies (Some d)) part whole
     (nat_le (length whole) longest_replies) refl cut h)
+
+-- and of a file of stubs
+pub checked-decides : (d : Coded) (shelf : Option Files) (files : Files) (path part : List ℕ) (task : Task)
+    → HasFile shelf path (1 + longest_stubs) part → shelf ≡ Some files → ChecksFile d (Some part) task
+    → ChecksFile d (files path) task
+checked-decides d shelf files path part task has e h =
+    let (whole, found, cut) = subst (λ (o : Option Files). HasFile o path (1 + longest_stubs) part) e has in
+    subst (λ (c : Option (List ℕ)). ChecksFile d c task) (sym found)
+    (of_prefix longest_stubs (λ t. ChecksText d t task) (task ≡ report_task LargeStubs (Some d)) part whole
+    (nat_le (length whole) longest_stubs) refl cut h)

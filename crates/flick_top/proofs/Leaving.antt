@@ -1,7 +1,7 @@
 -- The engine that a command leaves of its file.
 use Rattle.std.proofs.Common.{◌≡◌, inl, inr, ℕ, List, length, Bool, true, false, Option, Some, None, Result, Ok, Err, refl, sym, ap, ◌∙◌, subst}
 use Rattle.std.specs.Prelude.{nat_le, MatchBool, IfSome, IsSomeAnd, IsOkAnd}
-use Rattle.kit_base.specs.Limits.{longest_replies}
+use Rattle.kit_base.specs.Limits.{longest_replies, longest_stubs}
 use Rattle.aoi.specs.Plain.{PlainUnit}
 use Rattle.pres.specs.declared.errors.BindErr.{BindErr}
 use Rattle.pres.specs.Faults.{bind_fault}
@@ -14,11 +14,11 @@ use Rattle.flick_top.specs.declared.command.Action.{Action}
 use Rattle.flick_top.specs.declared.command.Action.TheVariants as actions
 use Rattle.flick_top.specs.declared.command.Command.{Command}
 use Rattle.flick_top.specs.declared.command.Command.TheVariants as commands
-use Rattle.flick_top.specs.declared.report.Report.TheVariants.{LargeReplies}
+use Rattle.flick_top.specs.declared.report.Report.TheVariants.{LargeReplies, LargeStubs}
 use Rattle.flick_top.specs.Command.{command_of, word_at}
 use Rattle.flick_top.specs.File.{Reported, IsOf, BindSays, BoundSays}
 use Rattle.flick_top.specs.Fronts.{Read}
-use Rattle.flick_top.specs.Dispatch.{Files, serving_task, ServesText, ServesFile, Acts, ActsOver, bridging_task, Bridges, TaskOf}
+use Rattle.flick_top.specs.Dispatch.{Files, serving_task, ServesText, ServesFile, ChecksText, ChecksFile, Acts, ActsOver, bridging_task, Bridges, TaskOf}
 use Rattle.flick_top.specs.Laws.{BoundFilesLeaveEngines}
 use Rattle.flick_top.specs.Made.{codes_of, IsEngineOver, LeavesEngine}
 use Rattle.flick_top.specs.Task.{Task, report_task}
@@ -38,10 +38,21 @@ serves_engine : (e : Coded) (content : Option (List ℕ)) (task : Task) → Serv
 serves_engine e None task is = ap (λ (t : Task). t.engine) is
 serves_engine e (Some text) task h = within_engine e text task (nat_le (length text) longest_replies) h
 
+-- stubs are checked by the engine
+stubs_engine : (e : Coded) (text : List ℕ) (task : Task) (b : Bool)
+    → MatchBool b (ChecksText e text task) (task ≡ report_task LargeStubs (Some e)) → task.engine ≡ Some e
+stubs_engine e text task true (answers, says, is) = ap (λ (t : Task). t.engine) is
+stubs_engine e text task false is = ap (λ (t : Task). t.engine) is
+
+checks_engine : (e : Coded) (content : Option (List ℕ)) (task : Task) → ChecksFile e content task → task.engine ≡ Some e
+checks_engine e None task is = ap (λ (t : Task). t.engine) is
+checks_engine e (Some text) task h = stubs_engine e text task (nat_le (length text) longest_stubs) h
+
 -- the task of an action over an engine has that engine
 acts_engine : (a : Action) (e : Coded) (words : List (List ℕ)) (files : Files) (task : Task) → Acts a e words files task
     → task.engine ≡ Some e
 acts_engine (actions.Serve replies) e words files task h = serves_engine e (files (word_at words replies)) task h
+acts_engine (actions.Check stubs) e words files task h = checks_engine e (files (word_at words stubs)) task h
 acts_engine (actions.Answer verb) e words files task is = ap (λ (t : Task). t.engine) is
 acts_engine actions.Pipe e words files task is = ap (λ (t : Task). t.engine) is
 acts_engine actions.Unpipe e words files task is = ap (λ (t : Task). t.engine) is

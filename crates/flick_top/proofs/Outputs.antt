@@ -4,7 +4,7 @@ use Rattle.std.specs.Prelude.{codes, nat_le, MatchBool, if◌then◌else◌}
 use Rattle.hex.specs.Hex.{decode_of, encode_lower}
 use Rattle.kit_base.specs.declared.lines.Line.{Line}
 use Rattle.kit_base.specs.declared.lines.Line.TheVariants.{Text, Long, End}
-use Rattle.kit_base.specs.Limits.{longest_replies}
+use Rattle.kit_base.specs.Limits.{longest_replies, longest_stubs}
 use Rattle.wire_def.specs.declared.encoding.Back.{Back}
 use Rattle.wire_frames.specs.declared.messages.Part.{Part}
 use Rattle.wire_frames.specs.declared.messages.Part.TheVariants as part
@@ -21,6 +21,8 @@ use Rattle.flick_serve.specs.Served.{IsServed}
 use Rattle.flick_serve.proofs.Alike.{file_over, served_over}
 use Rattle.flick_serve.proofs.Deciding.{given_once}
 use Rattle.flick_bridge.specs.Bridged.{Bridging, IsBridging}
+use Rattle.flick_check.specs.Checked.{IsChecked, has_refusal}
+use Rattle.flick_check.proofs.Deciding.{checked_once}
 use Rattle.flick_bridge.proofs.Alike.{AreBridges, bridged_over}
 use Rattle.aoi.specs.Plain.{PlainUnit}
 use Rattle.flick_engine.specs.declared.wire.Wire.{Wire}
@@ -37,17 +39,18 @@ use Rattle.flick_top.specs.declared.job.Job.TheVariants as jobs
 use Rattle.flick_top.specs.declared.report.Report.{Report}
 use Rattle.flick_top.specs.declared.report.Report.TheVariants as reports
 use Rattle.flick_top.specs.declared.status.Status.{Status}
+use Rattle.flick_top.specs.declared.status.Status.TheVariants as s
 use Rattle.flick_top.specs.declared.items.Item.{Item}
 use Rattle.flick_top.specs.declared.items.Item.TheVariants as items
 use Rattle.flick_top.specs.Answer.{Answer, answer_by, answer_of, engine_in, frame_of, is_refusal, written_of, Answering, IsTextTo, IsLineAnswer, IsPartLine, IsAnswer, answers, refuses, cutting_of}
-use Rattle.flick_top.specs.Dispatch.{Files, showing_task, text_before, serving_task, ServesText, ServesFile, Acts, ActsOver, IsSecond, bridging_task, Bridges, TaskOf, AreAnswered}
-use Rattle.flick_top.specs.Command.{command_of, word_at}
+use Rattle.flick_top.specs.Dispatch.{Files, showing_task, text_before, serving_task, ServesText, ServesFile, ChecksText, ChecksFile, Acts, ActsOver, IsSecond, bridging_task, Bridges, TaskOf, AreAnswered}
+use Rattle.flick_top.specs.Command.{command_of, word_at, ChecksStubs, IsOverStubs}
 use Rattle.flick_top.specs.File.{Reported, BoundSays, codes_in}
 use Rattle.flick_top.specs.Fronts.{Read}
 use Rattle.flick_top.specs.Items.{Cutting, by_frames}
 use Rattle.flick_top.specs.Laws.{IsOverCodes, ShowsCodes, OneOutput}
 use Rattle.flick_top.specs.Status.{number_of}
-use Rattle.flick_top.specs.Task.{Task, report_task, answering_task, writing_task, usage_task, items_of, Out, out_of}
+use Rattle.flick_top.specs.Task.{Task, report_task, answering_task, writing_task, checking_task, usage_task, items_of, Out, out_of}
 use Rattle.flick_top.proofs.Determined.{one_part, one_text}
 use Rattle.flick_top.proofs.Bridging.{bridging_stands}
 use Rattle.flick_top.proofs.FilesSay.{AreAlike, AreReported, bound_says, file_says, reported_alike}
@@ -122,6 +125,31 @@ serves_file : (d e : Coded) → AreTwins d.binding e.binding → d.minor ≡ e.m
     → ServesFile d content t → ServesFile e content u → AreTasks t u
 serves_file d e alike minors None t u p q = refused_alike reports.NoReplies d e t u p q
 serves_file d e alike minors (Some text) t u p q = within_serves d e alike minors text t u (nat_le (length text) longest_replies) p q
+
+-- stubs that are checked by one engine
+same_engine : (d e : Coded) → Some d ≡ Some e → d ≡ e
+same_engine d e is = cc is
+
+checked_alike : (d e : Coded) (a b : List ℕ) (t u : Task) → a ≡ b → t ≡ checking_task a d → u ≡ checking_task b e → AreTasks t u
+checked_alike d e a b t u same p q =
+    tasks_by t u (checking_task a d) (checking_task b e) p q
+    (record { text = same; status = ap (λ (x : List ℕ). if has_refusal x then s.Refused else s.Done) same; feeds = tt })
+
+checks_text : (d e : Coded) (text : List ℕ) (t u : Task) → t.engine ≡ u.engine → ChecksText d text t → ChecksText e text u → AreTasks t u
+checks_text d e text t u one (a, is, p) (b, also, q) =
+    let engines : d ≡ e = same_engine d e (sym (ap (λ (z : Task). z.engine) p) ∙ one ∙ ap (λ (z : Task). z.engine) q) in
+    checked_alike d e a b t u (checked_once e text a b (subst (λ (c : Coded). IsChecked c text a) engines is) also) p q
+
+within_checks : (d e : Coded) (text : List ℕ) (t u : Task) (b : Bool) → t.engine ≡ u.engine
+    → MatchBool b (ChecksText d text t) (t ≡ report_task reports.LargeStubs (Some d))
+    → MatchBool b (ChecksText e text u) (u ≡ report_task reports.LargeStubs (Some e)) → AreTasks t u
+within_checks d e text t u true one p q = checks_text d e text t u one p q
+within_checks d e text t u false one p q = refused_alike reports.LargeStubs d e t u p q
+
+checks_file : (d e : Coded) (content : Option (List ℕ)) (t u : Task) → t.engine ≡ u.engine → ChecksFile d content t
+    → ChecksFile e content u → AreTasks t u
+checks_file d e None t u one p q = refused_alike reports.NoStubs d e t u p q
+checks_file d e (Some text) t u one p q = within_checks d e text t u (nat_le (length text) longest_stubs) one p q
 
 -- bridges between such engines
 bridges_alike : (d e x y : Coded) → AreTwins d.binding e.binding → d.minor ≡ e.minor → AreTwins x.binding y.binding → x.minor ≡ y.minor
@@ -207,32 +235,34 @@ unpipes_alike d e twins minors = record {
 }
 
 acts_alike : (a : Action) (d e : Coded) → AreAlike (IsOverCodes a) d e → (words : List (List ℕ)) (files : Files) (t u : Task)
-    → Acts a d words files t → Acts a e words files u → AreTasks t u
-acts_alike (actions.Serve replies) d e alike words files t u p q =
+    → (IsOverStubs a → t.engine ≡ u.engine) → Acts a d words files t → Acts a e words files u → AreTasks t u
+acts_alike (actions.Check stubs) d e alike words files t u one p q =
+    checks_file d e (files (word_at words stubs)) t u (one tt) p q
+acts_alike (actions.Serve replies) d e alike words files t u one p q =
     serves_file d e alike.twins alike.minors (files (word_at words replies)) t u p q
-acts_alike (actions.Answer v) d e alike words files t u p q =
+acts_alike (actions.Answer v) d e alike words files t u one p q =
     tasks_by t u (answering_task (text_before v d) (jobs.Over v d)) (answering_task (text_before v e) (jobs.Over v e)) p q
     (record { text = before_alike v d e (verb_alike v d e alike); status = refl; feeds = overs_alike v d e (verb_alike v d e alike) })
-acts_alike actions.Pipe d e alike words files t u p q =
+acts_alike actions.Pipe d e alike words files t u one p q =
     tasks_by t u (answering_task [] (jobs.Pipe d)) (answering_task [] (jobs.Pipe e)) p q
     (record { text = refl; status = refl; feeds = pipes_alike d e alike.twins alike.minors })
-acts_alike actions.Unpipe d e alike words files t u p q =
+acts_alike actions.Unpipe d e alike words files t u one p q =
     tasks_by t u (answering_task [] (jobs.Unpipe d)) (answering_task [] (jobs.Unpipe e)) p q
     (record { text = refl; status = refl; feeds = unpipes_alike d e alike.twins alike.minors })
-acts_alike actions.Stubs d e alike words files t u p q =
+acts_alike actions.Stubs d e alike words files t u one p q =
     tasks_by t u (writing_task (stubs_text d) [] (Some d)) (writing_task (stubs_text e) [] (Some e)) p q
     (record { text = stubs_alike d e alike.twins (alike.codes tt); status = refl; feeds = tt })
-acts_alike (actions.Make number many) d e alike words files t u p q =
+acts_alike (actions.Make number many) d e alike words files t u one p q =
     tasks_by t u (writing_task (make_text d.binding d.minor number many) (all_sent d number many) (Some d))
     (writing_task (make_text e.binding e.minor number many) (all_sent e number many) (Some e)) p q
     (record { text = made_alike d.binding e.binding d.minor e.minor alike.twins alike.minors number many; status = refl; feeds = tt })
 
 over_reported : (a : Action) (r s : Reported) → AreReported (IsOverCodes a) r s → (words : List (List ℕ)) (files : Files) (t u : Task)
-    → ActsOver a r words files t → ActsOver a s words files u → AreTasks t u
-over_reported a (Ok d) (Ok e) same words files t u p q = acts_alike a d e same words files t u p q
-over_reported a (Ok d) (Err f) same words files t u p q = absurd same
-over_reported a (Err e) (Ok c) same words files t u p q = absurd same
-over_reported a (Err e) (Err f) same words files t u p q =
+    → (IsOverStubs a → t.engine ≡ u.engine) → ActsOver a r words files t → ActsOver a s words files u → AreTasks t u
+over_reported a (Ok d) (Ok e) same words files t u one p q = acts_alike a d e same words files t u one p q
+over_reported a (Ok d) (Err f) same words files t u one p q = absurd same
+over_reported a (Err e) (Ok c) same words files t u one p q = absurd same
+over_reported a (Err e) (Err f) same words files t u one p q =
     no_feed t u (report_task f None) refl (p ∙ ap (λ (x : Report). report_task x None) same) q
 
 shown_alike : (r : Read) (t u : Task) → t ≡ showing_task r → u ≡ showing_task r → AreTasks t u
@@ -240,17 +270,18 @@ shown_alike (Ok v) t u p q = no_feed t u (writing_task (show_text v) [] None) re
 shown_alike (Err report) t u p q = no_feed t u (report_task report None) refl p q
 
 over_files : (codes others : List Stub) (command : Option Command) (words : List (List ℕ)) (files : Files) (t u : Task)
-    → (ShowsCodes command → codes ≡ others) → TaskOf codes command words files t → TaskOf others command words files u → AreTasks t u
-over_files codes others None words files t u shown p q = no_feed t u usage_task refl p q
-over_files codes others (Some commands.Help) words files t u shown p q = no_feed t u (report_task reports.Help None) refl p q
-over_files codes others (Some commands.Version) words files t u shown p q = no_feed t u (report_task reports.Version None) refl p q
-over_files codes others (Some (commands.Show front)) words files t u shown (r, says, p) (s, also, q) =
+    → (ShowsCodes command → codes ≡ others) → (ChecksStubs command → t.engine ≡ u.engine) → TaskOf codes command words files t
+    → TaskOf others command words files u → AreTasks t u
+over_files codes others None words files t u shown one p q = no_feed t u usage_task refl p q
+over_files codes others (Some commands.Help) words files t u shown one p q = no_feed t u (report_task reports.Help None) refl p q
+over_files codes others (Some commands.Version) words files t u shown one p q = no_feed t u (report_task reports.Version None) refl p q
+over_files codes others (Some (commands.Show front)) words files t u shown one (r, says, p) (s, also, q) =
     let same : r ≡ s = file_says front (files (word_at words 2)) r s says also in
     shown_alike s t u (p ∙ ap (λ (x : Read). showing_task x) same) q
-over_files codes others (Some (commands.Over a n)) words files t u shown (r, mr, p) (s, ms, q) =
+over_files codes others (Some (commands.Over a n)) words files t u shown one (r, mr, p) (s, ms, q) =
     let alike = reported_alike (IsOverCodes a) codes others shown n (files (word_at words n.file)) r s mr ms in
-    over_reported a r s alike words files t u p q
-over_files codes others (Some (commands.Bridge n to)) words files t u shown (r, mr, p) (s, ms, q) =
+    over_reported a r s alike words files t u one p q
+over_files codes others (Some (commands.Bridge n to)) words files t u shown one (r, mr, p) (s, ms, q) =
     bridged_alike to r s (reported_alike ⊥ codes others (λ none. absurd none) n (files (word_at words n.file)) r s mr ms) t u p q
 
 -- ---- what is written
@@ -337,5 +368,5 @@ tasks_output t u f g same h i input =
     ∙ feeds_output t.feed u.feed u.text u.status f g same.feeds h i input
 
 pub one_output : OneOutput
-one_output codes others words files t u f g shown p q h i input =
-    tasks_output t u f g (over_files codes others (command_of words) words files t u shown p q) h i input
+one_output codes others words files t u f g shown one p q h i input =
+    tasks_output t u f g (over_files codes others (command_of words) words files t u shown one p q) h i input

@@ -9,14 +9,14 @@ use Rattle.flick_texts.specs.MadeText.{make_text}
 use Rattle.flick_texts.specs.Spent.{all_sent}
 use Rattle.flick_engine.specs.declared.wire.Wire.{Wire}
 use Rattle.flick_top.specs.declared.command.Action.{Action}
-use Rattle.flick_top.specs.declared.command.Action.TheVariants.{Serve, Make}
+use Rattle.flick_top.specs.declared.command.Action.TheVariants.{Serve, Check, Make}
 use Rattle.flick_top.specs.declared.command.Command.{Command}
 use Rattle.flick_top.specs.declared.command.Command.TheVariants.{Over, Bridge}
 use Rattle.flick_top.specs.declared.command.Named.{Named}
 use Rattle.flick_top.specs.declared.job.Job.{Job}
 use Rattle.flick_top.specs.declared.prepared.Prepared.{Prepared}
 use Rattle.flick_top.specs.declared.report.Report.{Report}
-use Rattle.flick_top.specs.Dispatch.{Files, IsMadeOf, BridgesFile, ServesFile, Acts, TaskOf}
+use Rattle.flick_top.specs.Dispatch.{Files, IsMadeOf, BridgesFile, ServesFile, ChecksFile, Acts, TaskOf}
 use Rattle.flick_top.specs.Command.{word_at}
 use Rattle.flick_top.specs.File.{Reported, codes_in}
 use Rattle.flick_top.specs.Made.{HasCodes, codes_of}
@@ -86,6 +86,17 @@ served-acts (Ok p) action replies e words told path buf is at serves = λ files 
     (subst (λ (a : Action). Acts a e words files (task_in p [])) (sym is)
     (subst (λ (o : List ℕ). ServesFile e (files o) (task_in p [])) at (serves files known)))
 served-acts (Err f) action replies e words told path buf is at serves = tt
+
+-- to check the stubs of the file at a path
+pub checked-acts : {E : Type 0} (x : Result Prepared E) (action : Action) (stubs : ℕ) (e : Coded) (words : List (List ℕ))
+    (told : Option Files) (path : List ℕ) (buf : Buf) → action ≡ Check stubs → path ≡ word_at words stubs
+    → IfOk x (λ p. (files : Files) → told ≡ Some files → ChecksFile e (files path) (task_in p []))
+    → IfOk x (λ p. (files : Files) → told ≡ Some files → ActsIn action e words files p buf buf)
+checked-acts (Ok p) action stubs e words told path buf is at checks = λ files known.
+    is-in (Acts action e words files) p buf
+    (subst (λ (a : Action). Acts a e words files (task_in p [])) (sym is)
+    (subst (λ (o : List ℕ). ChecksFile e (files o) (task_in p [])) at (checks files known)))
+checked-acts (Err f) action stubs e words told path buf is at checks = tt
 
 -- to write what is counted of messages that were sent
 pub made-acts : (action : Action) (number many : ℕ) (e : Coded) (words : List (List ℕ)) (files : Files) (p : Prepared) (text : List ℕ)

@@ -1,5 +1,6 @@
 -- What is prepared is what the words come to.
-use Rattle.std.proofs.Common.{◌≡◌, inl, inr, ℕ, true, List, [], Option, Some, None, refl, sym, ◌∙◌, subst}
+use Rattle.std.proofs.Common.{◌≡◌, inl, inr, ℕ, Bool, true, false, List, [], Option, Some, None, refl, sym, ◌∙◌, subst}
+use Rattle.std.specs.Prelude.{if◌then◌else◌}
 use Rattle.std.proofs.KnownBytes.{Appends-nil, Consumes-nil}
 use Rattle.raw_buf.specs.Buf.{Buf}
 use Rattle.stub_codes.specs.Stubs.{Coded}
@@ -11,6 +12,7 @@ use Rattle.flick_top.specs.declared.prepared.Prepared.{Prepared}
 use Rattle.flick_top.specs.declared.report.Report.{Report}
 use Rattle.flick_top.specs.declared.report.Report.TheVariants as reports
 use Rattle.flick_top.specs.declared.status.Status.{Status}
+use Rattle.flick_top.specs.declared.status.Status.TheVariants as s
 use Rattle.flick_top.specs.Answer.{Answering, answer_of}
 use Rattle.flick_top.specs.Dispatch.{Files, TaskOf, IsTask, AreAnswered}
 use Rattle.flick_top.specs.Command.{command_of}
@@ -29,15 +31,22 @@ report-ends report status is = subst (λ (x : Status). EndsAs None x) (sym is) (
   ends : (report : Report) → EndsAs None (report_status report)
   ends reports.Help = inl refl
   ends reports.Version = inl refl
-  ends reports.NoFile = inr refl
-  ends reports.TooLarge = inr refl
-  ends (reports.Lex fault) = inr refl
-  ends (reports.Syntax line) = inr refl
-  ends (reports.Name error) = inr refl
-  ends (reports.Bind reason) = inr refl
-  ends reports.NoReplies = inr refl
-  ends reports.LargeReplies = inr refl
-  ends (reports.WrongReply line) = inr refl
+  ends reports.NoFile = inr (inr refl)
+  ends reports.TooLarge = inr (inr refl)
+  ends (reports.Lex fault) = inr (inr refl)
+  ends (reports.Syntax line) = inr (inr refl)
+  ends (reports.Name error) = inr (inr refl)
+  ends (reports.Bind reason) = inr (inr refl)
+  ends reports.NoReplies = inr (inr refl)
+  ends reports.LargeReplies = inr (inr refl)
+  ends (reports.WrongReply line) = inr (inr refl)
+  ends reports.NoStubs = inr (inr refl)
+  ends reports.LargeStubs = inr (inr refl)
+
+-- so does work whose answers are refusals or not
+pub answers-end : (b : Bool) (status : Status) → status ≡ (if b then s.Refused else s.Done) → EndsAs None status
+answers-end true status is = inr (inl is)
+answers-end false status is = inl is
 
 -- ---- without the buffer
 

@@ -1,7 +1,7 @@
 -- All words and files have a task.
 use Rattle.std.proofs.Common.{◌≡◌, ℕ, Bool, true, false, List, [], length, Option, Some, None, Ok, Err, refl}
 use Rattle.std.specs.Prelude.{nat_le, MatchBool}
-use Rattle.kit_base.specs.Limits.{longest_file, longest_replies}
+use Rattle.kit_base.specs.Limits.{longest_file, longest_replies, longest_stubs}
 use Rattle.idl_lex.specs.declared.kinds.Front.{Front}
 use Rattle.aoi.specs.Plain.{PlainUnit, IsSoundPlain}
 use Rattle.pres.specs.declared.errors.BindErr.{BindErr}
@@ -11,6 +11,7 @@ use Rattle.stub_codes.specs.declared.stub.Stub.{Stub}
 use Rattle.stub_codes.specs.Stubs.{Coded}
 use Rattle.flick_engine.specs.declared.wire.Wire.{Wire}
 use Rattle.flick_engine.specs.Backs.{back_in, minor_in}
+use Rattle.flick_check.proofs.Deciding.{checked_somehow}
 use Rattle.flick_serve.proofs.Deciding.{given_somehow}
 use Rattle.flick_texts.specs.MadeText.{make_text}
 use Rattle.flick_texts.specs.Spent.{all_sent}
@@ -25,8 +26,8 @@ use Rattle.flick_top.specs.Command.{command_of, word_at}
 use Rattle.flick_top.specs.File.{Reported, BindSays, BoundSays, FileSays, codes_in}
 use Rattle.flick_top.specs.Fronts.{Read, UnitOf}
 use Rattle.flick_top.specs.Laws.{WordsHaveTasks}
-use Rattle.flick_top.specs.Dispatch.{Files, showing_task, text_before, serving_task, ServesText, ServesFile, Acts, ActsOver, bridging_task, Bridges, TaskOf}
-use Rattle.flick_top.specs.Task.{Task, report_task, answering_task, writing_task, usage_task}
+use Rattle.flick_top.specs.Dispatch.{Files, showing_task, text_before, serving_task, ServesText, ServesFile, ChecksText, ChecksFile, Acts, ActsOver, bridging_task, Bridges, TaskOf}
+use Rattle.flick_top.specs.Task.{Task, report_task, answering_task, writing_task, checking_task, usage_task}
 use Rattle.flick_top.proofs.UnitsOfFronts.{IsSoundRead, unit_has}
 
 -- ---- over a back end
@@ -95,8 +96,18 @@ serves_has : (e : Coded) (content : Option (List ℕ)) → (task : Task) × Serv
 serves_has e None = (report_task reports.NoReplies (Some e), refl)
 serves_has e (Some text) = within_serves e text (nat_le (length text) longest_replies)
 
+within_checks : (e : Coded) (text : List ℕ) (b : Bool)
+    → (task : Task) × MatchBool b (ChecksText e text task) (task ≡ report_task reports.LargeStubs (Some e))
+within_checks e text true = let (answers, is) = checked_somehow e text in (checking_task answers e, (answers, is, refl))
+within_checks e text false = (report_task reports.LargeStubs (Some e), refl)
+
+checks_has : (e : Coded) (content : Option (List ℕ)) → (task : Task) × ChecksFile e content task
+checks_has e None = (report_task reports.NoStubs (Some e), refl)
+checks_has e (Some text) = within_checks e text (nat_le (length text) longest_stubs)
+
 action_has : (a : Action) (e : Coded) (words : List (List ℕ)) (files : Files) → (task : Task) × Acts a e words files task
 action_has (actions.Serve replies) e words files = serves_has e (files (word_at words replies))
+action_has (actions.Check stubs) e words files = checks_has e (files (word_at words stubs))
 action_has (actions.Answer verb) e words files = (answering_task (text_before verb e) (jobs.Over verb e), refl)
 action_has actions.Pipe e words files = (answering_task [] (jobs.Pipe e), refl)
 action_has actions.Unpipe e words files = (answering_task [] (jobs.Unpipe e), refl)

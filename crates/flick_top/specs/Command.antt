@@ -6,7 +6,7 @@ use Rattle.flick_engine.specs.declared.wire.Wire.{Wire}
 use Rattle.flick_engine.specs.Backs.{wire_of}
 use Rattle.flick_lines.specs.declared.verb.Verb.TheVariants.{Marshal, Unmarshal, Reply, Unreply, Count}
 use Rattle.flick_top.specs.declared.command.Action.{Action}
-use Rattle.flick_top.specs.declared.command.Action.TheVariants.{Answer, Pipe, Unpipe, Serve, Stubs, Make}
+use Rattle.flick_top.specs.declared.command.Action.TheVariants.{Answer, Pipe, Unpipe, Serve, Check, Stubs, Make}
 use Rattle.flick_top.specs.declared.command.Command.{Command}
 use Rattle.flick_top.specs.declared.command.Command.TheVariants.{Help, Version, Show, Over, Bridge}
 use Rattle.flick_top.specs.Fronts.{front_of}
@@ -32,9 +32,12 @@ last_action word =
     else if bytes_eq word (codes "stubs") then Some Stubs
     else None
 
--- `serve`, whose replies are in the file of the fifth word
-abbrev pub serving : List ℕ → Option Action
-serving word = if bytes_eq word (codes "serve") then Some (Serve 4) else None
+-- the action of a word, where the fifth word is that of a second file: of replies, or of stubs
+abbrev pub second_file : List ℕ → Option Action
+second_file word =
+    if bytes_eq word (codes "serve") then Some (Serve 4)
+    else if bytes_eq word (codes "check") then Some (Check 4)
+    else None
 
 -- `make`, a number, and how many messages are made from it on
 abbrev pub making : List ℕ → Option ℕ → Option ℕ → Option Action
@@ -45,7 +48,7 @@ making word (Some number) (Some many) = if bytes_eq word (codes "make") then Som
 -- the action of a word, with the words after FILE
 abbrev pub action_of : List ℕ → List (List ℕ) → Option Action
 action_of word [] = last_action word
-action_of word (replies ∷ []) = serving word
+action_of word (second ∷ []) = second_file word
 action_of word (number ∷ many ∷ []) = making word (number_in 18446744073709551615 number) (number_in 1000000 many)
 action_of word (a ∷ b ∷ c ∷ words) = None
 
@@ -106,6 +109,16 @@ abbrev pub AnswersItems : Option Command → Type 0
 AnswersItems (Some (Over action n)) = IsOverItems action
 AnswersItems (Some (Bridge n to)) = Unit {0}
 AnswersItems _ = ⊥
+
+-- an action that says what is to be said of stubs
+abbrev pub IsOverStubs : Action → Type 0
+IsOverStubs (Check stubs) = Unit {0}
+IsOverStubs _ = ⊥
+
+-- a command that does
+abbrev pub ChecksStubs : Option Command → Type 0
+ChecksStubs (Some (Over action n)) = IsOverStubs action
+ChecksStubs _ = ⊥
 
 -- a command over files
 abbrev pub ReadsFiles : Option Command → Type 0

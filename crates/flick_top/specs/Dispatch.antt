@@ -1,11 +1,12 @@
 -- What a command comes to over the files.
 use Rattle.std.specs.Prelude.{◌≡◌, ℕ, List, [], length, nat_le, MatchBool, Option, Some, None, Result, Ok, Err}
-use Rattle.kit_base.specs.Limits.{longest_replies}
+use Rattle.kit_base.specs.Limits.{longest_replies, longest_stubs}
 use Rattle.stub_codes.specs.declared.stub.Stub.{Stub}
 use Rattle.stub_codes.specs.Stubs.{Coded}
 use Rattle.idl_lex.specs.declared.kinds.Front.{Front}
 use Rattle.flick_engine.specs.declared.wire.Wire.{Wire}
 use Rattle.flick_bridge.specs.Bridged.{Bridging}
+use Rattle.flick_check.specs.Checked.{IsChecked}
 use Rattle.flick_lines.specs.declared.verb.Verb.{Verb}
 use Rattle.flick_lines.specs.declared.verb.Verb.TheVariants.{Count}
 use Rattle.flick_serve.specs.Given.{Given, FileGives}
@@ -25,7 +26,7 @@ use Rattle.flick_top.specs.Answer.{Answering, IsAnswering}
 use Rattle.flick_top.specs.Command.{command_of, word_at}
 use Rattle.flick_top.specs.File.{Reported, FileSays, BoundSays, codes_in}
 use Rattle.flick_top.specs.Fronts.{Read}
-use Rattle.flick_top.specs.Task.{Task, report_task, writing_task, answering_task, usage_task}
+use Rattle.flick_top.specs.Task.{Task, report_task, writing_task, checking_task, answering_task, usage_task}
 use Rattle.flick_top.specs.declared.job.Job.{Job}
 
 -- files by their paths
@@ -52,12 +53,23 @@ ServesFile e None task = task ≡ report_task reports.NoReplies (Some e)
 ServesFile e (Some text) task =
     MatchBool (nat_le (length text) longest_replies) (ServesText e text task) (task ≡ report_task reports.LargeReplies (Some e))
 
+-- what `check` comes to over an engine and the text of a file of stubs
+abbrev pub ChecksText : Coded → List ℕ → Task → Type 0
+ChecksText e text task = (answers : List ℕ) × IsChecked e text answers × (task ≡ checking_task answers e)
+
+-- the same over the content of the file, where there is the file
+abbrev pub ChecksFile : Coded → Option (List ℕ) → Task → Type 0
+ChecksFile e None task = task ≡ report_task reports.NoStubs (Some e)
+ChecksFile e (Some text) task =
+    MatchBool (nat_le (length text) longest_stubs) (ChecksText e text task) (task ≡ report_task reports.LargeStubs (Some e))
+
 -- what an action comes to over an engine: to answer items by a verb, or by the replies of a second file, or to write a text
 abbrev pub Acts : Action → Coded → List (List ℕ) → Files → Task → Type 0
 Acts (actions.Answer verb) e words files task = task ≡ answering_task (text_before verb e) (jobs.Over verb e)
 Acts actions.Pipe e words files task = task ≡ answering_task [] (jobs.Pipe e)
 Acts actions.Unpipe e words files task = task ≡ answering_task [] (jobs.Unpipe e)
 Acts (actions.Serve replies) e words files task = ServesFile e (files (word_at words replies)) task
+Acts (actions.Check stubs) e words files task = ChecksFile e (files (word_at words stubs)) task
 Acts actions.Stubs e words files task = task ≡ writing_task (stubs_text e) [] (Some e)
 Acts (actions.Make number many) e words files task =
     task ≡ writing_task (make_text e.binding e.minor number many) (all_sent e number many) (Some e)

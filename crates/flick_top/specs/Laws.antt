@@ -9,11 +9,11 @@ use Rattle.stub_codes.specs.declared.stub.Stub.{Stub}
 use Rattle.stub_codes.specs.Stubs.{Coded}
 use Rattle.flick_lines.specs.declared.verb.Verb.TheVariants.{Count}
 use Rattle.flick_top.specs.declared.command.Action.{Action}
-use Rattle.flick_top.specs.declared.command.Action.TheVariants.{Answer, Stubs}
+use Rattle.flick_top.specs.declared.command.Action.TheVariants.{Answer, Check, Stubs}
 use Rattle.flick_top.specs.declared.command.Command.{Command}
 use Rattle.flick_top.specs.declared.command.Command.TheVariants.{Over}
 use Rattle.flick_top.specs.Answer.{Answering}
-use Rattle.flick_top.specs.Command.{command_of}
+use Rattle.flick_top.specs.Command.{command_of, ChecksStubs}
 use Rattle.flick_top.specs.Made.{codes_of, LeavesEngine}
 use Rattle.flick_top.specs.Outside.{Input, Held, TakesPrefix, Fails}
 use Rattle.flick_top.specs.Dispatch.{Files, IsTask, AreAnswered, Does}
@@ -22,9 +22,10 @@ use Rattle.flick_top.specs.Task.{Task, out_of}
 use Rattle.flick_top.specs.Statement.{Works, Completes}
 use Rattle.flick_top.specs.Status.{out_of_memory}
 
--- an action that shows the codes of the engine: `stubs` writes them, and `count` what they cost
+-- an action that shows the codes of the engine: `stubs` writes them, `count` what they cost, and `check` lays stubs beside them
 abbrev pub IsOverCodes : Action → Type 0
 IsOverCodes Stubs = Unit {0}
+IsOverCodes (Check stubs) = Unit {0}
 IsOverCodes (Answer Count) = Unit {0}
 IsOverCodes _ = ⊥
 
@@ -33,10 +34,12 @@ abbrev pub ShowsCodes : Option Command → Type 0
 ShowsCodes (Some (Over action n)) = IsOverCodes action
 ShowsCodes _ = ⊥
 
--- the words have one output over the files, whatever codes engines have; with the same codes, where the command shows them
+-- the words have one output over the files, whatever codes engines have; with the same codes, where the command shows them; and by the
+-- same engine, where it says what is to be said of stubs, which are laid over its table of types
 abbrev pub OneOutput : Type 0
 OneOutput = (codes others : List Stub) (words : List (List ℕ)) (files : Files) (t u : Task) (f g : Answering)
     → (ShowsCodes (command_of words) → codes ≡ others)
+    → (ChecksStubs (command_of words) → t.engine ≡ u.engine)
     → IsTask codes words files t → IsTask others words files u → AreAnswered t.feed f → AreAnswered u.feed g
     → (input : List ℕ) → out_of t f input ≡ out_of u g input
 
@@ -70,12 +73,13 @@ abbrev pub Begins : Task → Answering → List ℕ → Held → Held → Type 0
 Begins task f input held held' =
     (begun rest : List ℕ) × ((out_of task f input).octets ≡ begun ++ rest) × Appends held held' begun
 
--- the clause `work` of `flick` comes to this, whatever the status, for each task to which the words come, and its answers
+-- the clause `work` of `flick` comes to this, whatever the status, for each task to which the words come, and its answers; where stubs are
+-- checked, for each such task by the engine that was left
 abbrev pub OutputsBegin : Type 0
 OutputsBegin = (made : Option Coded) (words : List (List ℕ)) (files : Files) (left left' : Input) (held held' : Held)
     (source source' status : ℕ) (old new : Buf) → Works made words files left left' source source' held held' old new status
     → (task : Task) (f : Answering) → IsTask (codes_of made) words files task → AreAnswered task.feed f
-    → (input : List ℕ) → left ≡ Some input → Begins task f input held held'
+    → (ChecksStubs (command_of words) → task.engine ≡ made) → (input : List ℕ) → left ≡ Some input → Begins task f input held held'
 
 -- where a file is bound, the work that was done leaves an engine of its unit
 abbrev pub BoundFilesLeaveEngines : Type 0

@@ -8,7 +8,7 @@ use Rattle.aoi.specs.declared.faults.NameFault.{NameFault}
 use Rattle.aoi.specs.declared.faults.NameFault.TheVariants as name
 use Rattle.flick_top.specs.declared.report.TheConstants.{USAGE, VERSION}
 use Rattle.flick_top.specs.declared.report.Report.{Report}
-use Rattle.flick_top.specs.declared.report.Report.TheVariants.{Help, Version, NoFile, TooLarge, Lex, Syntax, Name, Bind, NoReplies, LargeReplies, WrongReply}
+use Rattle.flick_top.specs.declared.report.Report.TheVariants.{Help, Version, NoFile, TooLarge, Lex, Syntax, Name, Bind, NoReplies, LargeReplies, WrongReply, NoStubs, LargeStubs}
 use Rattle.flick_top.specs.declared.status.Status.{Status}
 use Rattle.flick_top.specs.declared.status.Status.TheVariants.{Done, File}
 
@@ -64,6 +64,8 @@ report_text (Bind reason) = codes "? bind " ++ bind_name reason ++ codes "\n"
 report_text NoReplies = codes "? replies file\n"
 report_text LargeReplies = codes "? replies size\n"
 report_text (WrongReply line) = codes "? replies " ++ decimal line ++ codes "\n"
+report_text NoStubs = codes "? stubs file\n"
+report_text LargeStubs = codes "? stubs size\n"
 
 -- how a call ends that says it
 abbrev pub report_status : Report → Status
@@ -78,3 +80,5 @@ report_status (Bind reason) = File
 report_status NoReplies = File
 report_status LargeReplies = File
 report_status (WrongReply line) = File
+report_status NoStubs = File
+report_status LargeStubs = File

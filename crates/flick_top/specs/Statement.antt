@@ -4,10 +4,11 @@ use Rattle.std.specs.Io.KnownBytes.{Appends, Consumes, IsAtEnd}
 use Rattle.kit_base.specs.Limits.{most_input}
 use Rattle.raw_buf.specs.Buf.{Buf}
 use Rattle.stub_codes.specs.Stubs.{Coded, IsCoded}
+use Rattle.flick_check.specs.Checked.{YesIsSent}
 use Rattle.flick_lines.specs.Sent.{IsSpentBy}
 use Rattle.flick_top.specs.Answer.{Answering}
 use Rattle.flick_top.specs.Dispatch.{Files, Does}
-use Rattle.flick_top.specs.Command.{command_of, AnswersItems, ReadsFiles}
+use Rattle.flick_top.specs.Command.{command_of, AnswersItems, ChecksStubs, ReadsFiles}
 use Rattle.flick_top.specs.Made.{codes_of}
 use Rattle.flick_top.specs.Outside.{Input, Held, Fails}
 use Rattle.flick_top.specs.Status.{refused, usage, file_refused, source_failed, sink_failed, shelf_failed, out_of_memory, too_much}
@@ -43,6 +44,11 @@ pub record Done (task : Task) (f : Answering) (made : Option Coded) (left left' 
 abbrev pub Works : Option Coded → List (List ℕ) → Files → Input → Input → ℕ → ℕ → Held → Held → Buf → Buf → ℕ → Type 0
 Works made words files left left' before now held held' old new status = Fails left left' held held' status
     ⊎ Does (codes_of made) words files (λ task f. Done task f made left left' before now held held' old new status)
+
+-- where stubs are checked, each code that gets a yes beside the codes of the engine that is left sends the messages of requests, inside
+-- ensured space
+abbrev pub YesIsKept : Option Coded → List (List ℕ) → Type 0
+YesIsKept made words = ChecksStubs (command_of words) → IfSome made YesIsSent
 
 -- the words name no command: exactly then this status comes
 abbrev pub IsUsage : List (List ℕ) → ℕ → Type 0

@@ -1,12 +1,13 @@
 -- Tasks: what is left to do of a command once its files are read, and what is then written and sent.
 use Rattle.std.specs.Prelude.{◌≡◌, ℕ, List, [], ◌++◌, Bool, true, if◌then◌else◌, Option, Some, None}
 use Rattle.stub_codes.specs.Stubs.{Coded}
+use Rattle.flick_check.specs.Checked.{has_refusal}
 use Rattle.flick_lines.specs.Sent.{Sending}
 use Rattle.flick_top.specs.declared.job.Job.{Job}
 use Rattle.flick_top.specs.declared.job.Job.TheVariants as jobs
 use Rattle.flick_top.specs.declared.report.Report.{Report}
 use Rattle.flick_top.specs.declared.status.Status.{Status}
-use Rattle.flick_top.specs.declared.status.Status.TheVariants.{Done, Usage}
+use Rattle.flick_top.specs.declared.status.Status.TheVariants.{Done, Refused, Usage}
 use Rattle.flick_top.specs.declared.prepared.Prepared.{Prepared}
 pub use Rattle.flick_top.specs.Answer.{engine_in}
 use Rattle.flick_top.specs.Answer.{Answering, answers, refuses, sent_for, cutting_of, is_exact}
@@ -36,6 +37,16 @@ report_task report engine = record { text = report_text report; status = report_
 -- to write this text, for which this was sent, and no more
 abbrev pub writing_task : List ℕ → List Sending → Option Coded → Task
 writing_task text before engine = record { text = text; status = Done; before = before; feed = None; engine = engine }
+
+-- to write these answers, and no more, over an engine; the work ends as a refusal where one of them is
+abbrev pub checking_task : List ℕ → Coded → Task
+checking_task answers e = record {
+  text = answers;
+  status = if has_refusal answers then Refused else Done;
+  before = [];
+  feed = None;
+  engine = Some e;
+}
 
 -- to answer items, after a text
 abbrev pub answering_task : List ℕ → Job → Task

@@ -10,14 +10,15 @@ use Rattle.flick_top.specs.declared.command.Command.{Command}
 use Rattle.flick_top.specs.declared.job.Job.{Job}
 use Rattle.flick_top.specs.declared.prepared.Prepared.{Prepared}
 use Rattle.flick_top.specs.declared.status.Status.{Status}
-use Rattle.flick_top.specs.declared.status.Status.TheVariants.{Done, File, Source, Memory, Length}
+use Rattle.flick_top.specs.declared.status.Status.TheVariants.{Done, Refused, File, Source, Memory, Length}
 use Rattle.flick_top.specs.Dispatch.{Files, Acts, TaskOf}
 use Rattle.flick_top.specs.Made.{codes_of}
 use Rattle.flick_top.specs.Task.{Task, engine_of, task_in}
 
--- the end of work that answers no items is that it was done, or that a file was refused; else it is that it was done
+-- the end of work that answers no items is that it was done, with a refusal or without, or that a file was refused; else it is that it
+-- was done
 abbrev pub EndsAs : Option Job → Status → Type 0
-EndsAs None status = (status ≡ Done) ⊎ (status ≡ File)
+EndsAs None status = (status ≡ Done) ⊎ ((status ≡ Refused) ⊎ (status ≡ File))
 EndsAs (Some job) status = status ≡ Done
 
 -- what is prepared ends so

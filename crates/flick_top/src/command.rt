@@ -1,7 +1,7 @@
 //! The command that the words name.
 
 ghost use Rattle.std.specs.Prelude.{◌≡◌, ◌≤◌, IfSome};
-ghost use Rattle.flick_top.specs.Command.{bridge_between, bridging, command_of, either_command, option_of, last_action, serving, making, action_of, showing, over_file, word_at};
+ghost use Rattle.flick_top.specs.Command.{bridge_between, bridging, command_of, either_command, option_of, last_action, second_file, making, action_of, showing, over_file, word_at};
 ghost use Rattle.flick_top.specs.Fronts as fronts;
 ghost use Rattle.flick_engine.specs.Backs as backs;
 
@@ -12,8 +12,8 @@ use flick_lines::Verb;
 use idl_lex::Front;
 use kit_base::{Octets, Words};
 
-/// The place of the word of a file of replies, from 0.
-const REPLIES: usize = 4;
+/// The place of the word of a second file, from 0.
+const SECOND: usize = 4;
 
 /// The place of the file's word where two back ends are named, from 0.
 const BRIDGED: usize = 4;
@@ -44,6 +44,8 @@ pub enum Action {
     Answer(Verb),
     /// To answer messages by the replies of a second file, the place of whose word is given: `serve`
     Serve(usize),
+    /// To say which stubs of a second file, the place of whose word is given, send the messages of requests: `check`
+    Check(usize),
     /// To write the messages of the lines of the input, one after the other: `pipe`
     Pipe,
     /// To answer the messages of a raw stream by their records: `unpipe`
@@ -180,7 +182,7 @@ fn action_of(word: &[u8], more: &[Octets]) -> Option<Action>
 {
     match more {
         [] => last_action(word),
-        [_] => serving(word),
+        [_] => second_file(word),
         [number, many] => making(
             word,
             number_in(u64::MAX, number.as_slice()),
@@ -190,12 +192,15 @@ fn action_of(word: &[u8], more: &[Octets]) -> Option<Action>
     }
 }
 
-/// `serve`.
-fn serving(word: &[u8]) -> Option<Action>
-    ensures { result ≡ serving word.now }
+/// The action of a word, where the word of a second file is the last.
+fn second_file(word: &[u8]) -> Option<Action>
+    ensures { result ≡ second_file word.now }
 {
     if word == b"serve".as_slice() {
-        return Some(Action::Serve(REPLIES));
+        return Some(Action::Serve(SECOND));
+    }
+    if word == b"check".as_slice() {
+        return Some(Action::Check(SECOND));
     }
     None
 }

@@ -3,7 +3,7 @@
 ghost use Rattle.std.specs.Prelude.{◌≡◌, ◌≢◌, ◌≤◌, [], Ok, Some, IfOk, IfErr, IfSome};
 ghost use Rattle.kit_base.specs.Causes.{Rose};
 ghost use Rattle.raw_buf.specs.Buf.{NoneFell};
-ghost use Rattle.flick_top.specs.Dispatch.{Files, BridgesFile, ServesFile, ServesText, showing_task, text_before};
+ghost use Rattle.flick_top.specs.Dispatch.{Files, BridgesFile, ChecksFile, ServesFile, ServesText, showing_task, text_before};
 ghost use Rattle.flick_top.specs.Command.{AnswersItems, IsOverItems, ReadsFiles};
 ghost use Rattle.flick_top.specs.File.{plainly};
 ghost use Rattle.flick_top.specs.Made.{HasCodes, codes_of};
@@ -16,11 +16,12 @@ use crate::job::Job;
 use crate::prepared::Prepared;
 use crate::report::Report;
 use aoi::Unit;
+use flick_check::check_stubs;
 use flick_engine::{Engine, Wire};
 use flick_lines::Verb;
 use flick_serve::{Server, WrongReplies};
 use flick_texts::{counted_text, make_text, show_text, stubs_text};
-use kit_base::limits::LONGEST_REPLIES;
+use kit_base::limits::{LONGEST_REPLIES, LONGEST_STUBS};
 use kit_base::{NoMemory, Octets, Shelf, ShelfErr, Words};
 use raw_buf::SendBuf;
 use std::alloc::Global;
@@ -134,6 +135,7 @@ fn run_action<F: Shelf>(
         Action::Pipe => Ok(Prepared::of_job(Octets::new(alloc), Job::Pipe(engine))),
         Action::Unpipe => Ok(Prepared::of_job(Octets::new(alloc), Job::Unpipe(engine))),
         Action::Serve(replies) => serve_file(alloc, engine, word_at(words, replies), shelf),
+        Action::Check(stubs) => check_file(alloc, engine, word_at(words, stubs), shelf),
         Action::Stubs => {
             let text = stubs_text(alloc, &engine)?;
             Ok(Prepared::of_text(text, Some(engine)))
@@ -197,6 +199,48 @@ fn server_from(alloc: Global, engine: Engine, text: Octets) -> Result<Prepared, 
             Prepared::of_report(alloc, Report::WrongReply(line.0), Some(engine))
         }
     }
+}
+
+/// To write the answers to the stubs of the file at a path, or what is said instead. One octet more than the greatest
+/// length is read, which shows that a file is longer.
+fn check_file<F: Shelf>(
+    alloc: Global,
+    engine: Engine,
+    path: &[u8],
+    shelf: &mut F,
+) -> Result<Prepared, TaskErr>
+    // What it comes to.
+    ensures checks { IfOk result (λ p. (files : Files) → F.files shelf.old ≡ Some files
+        → ChecksFile engine (files path.now) (task_in p [])) }
+    ensures codes { IfOk result (λ p. HasCodes (Ok engine) p) }
+    ensures ready { IfOk result IsReady }
+    ensures items { IfOk result (λ p. p.feed ≡ None) }
+    // Whether the shelf failed.
+    ensures files { F.files shelf.new ≡ F.files shelf.old }
+    ensures later { F.faults shelf.old ≤ F.faults shelf.new }
+    ensures cause { IfErr result (λ e. e ≡ TaskErr.Shelf → Rose (F.faults shelf.old) (F.faults shelf.new)) }
+    ensures stands { result ≢ Err TaskErr.Shelf → F.faults shelf.old ≡ F.faults shelf.new }
+{
+    match shelf.read_file(alloc, path, LONGEST_STUBS + 1) {
+        Ok(text) => Ok(check_text(alloc, engine, text.as_slice())?),
+        Err(ShelfErr::Absent) => Ok(Prepared::of_report(alloc, Report::NoStubs, Some(engine))?),
+        Err(ShelfErr::Failed) => Err(TaskErr::Shelf),
+        Err(ShelfErr::NoMemory) => Err(TaskErr::NoMemory),
+    }
+}
+
+/// To write the answers to the stubs of a text, unless it is too large.
+fn check_text(alloc: Global, engine: Engine, text: &[u8]) -> Result<Prepared, NoMemory>
+    ensures checks { IfOk result (λ p. ChecksFile engine (Some text.now) (task_in p [])) }
+    ensures codes { IfOk result (λ p. HasCodes (Ok engine) p) }
+    ensures ready { IfOk result IsReady }
+    ensures items { IfOk result (λ p. p.feed ≡ None) }
+{
+    if text.len() > LONGEST_STUBS as usize {
+        return Prepared::of_report(alloc, Report::LargeStubs, Some(engine));
+    }
+    let answers = check_stubs(alloc, &engine, text)?;
+    Ok(Prepared::of_answers(answers, engine))
 }
 
 /// To answer the items of the input by a verb.

@@ -1,16 +1,19 @@
 //! What is left to do when the files are read.
 
-ghost use Rattle.std.specs.Prelude.{◌≡◌, [], List, Option, Some, None, IfOk, IfSome};
+ghost use Rattle.std.specs.Prelude.{◌≡◌, [], List, Option, Some, None, IfOk, IfSome, if◌then◌else◌};
+ghost use Rattle.flick_check.specs.Checked as checked;
+ghost use Rattle.flick_check.specs.Checked.{YesIsSent};
 ghost use Rattle.flick_lines.specs.Sent.{Sending};
 ghost use Rattle.stub_codes.specs.Stubs.{IsCoded};
 ghost use Rattle.flick_top.specs.Answer.{Answering};
 ghost use Rattle.flick_top.specs.Dispatch.{AreAnswered};
-ghost use Rattle.flick_top.specs.Task.{answering_task, engine_of, report_task, task_in, writing_task};
+ghost use Rattle.flick_top.specs.Task.{answering_task, checking_task, engine_of, report_task, task_in, writing_task};
 ghost use Rattle.flick_top.specs.Turn.{IsReady};
 
 use crate::job::Job;
 use crate::report::Report;
 use crate::status::Status;
+use flick_check::{a_yes_is_sent, has_refusal};
 use flick_engine::Engine;
 use kit_base::{NoMemory, Octets};
 use std::alloc::Global;
@@ -73,6 +76,20 @@ impl Prepared {
         }
     }
 
+    /// To write answers, and no more, over an engine.
+    pub fn of_answers(answers: Octets, engine: Engine) -> Prepared
+        ensures value { task_in result [] ≡ checking_task answers engine }
+        ensures ready { IsReady result }
+    {
+        let status = answers_status(answers.as_slice());
+        Prepared {
+            text: answers,
+            status,
+            feed: None,
+            idle: Some(engine),
+        }
+    }
+
     /// Each item has an answer. It does nothing.
     pub fn items_are_answered(&self)
         ensures { (f : Answering) × AreAnswered self.now.feed f }
@@ -90,6 +107,16 @@ impl Prepared {
         match &self.feed {
             Some(job) => job.codes_match_operations(),
             None => codes_of_idle(&self.idle),
+        }
+    }
+
+    /// What a yes promises of stubs, where no items are answered and there is an engine. It looks at each node once.
+    pub fn yes_is_sent(&self)
+        ensures { self.now.feed ≡ None → IfSome (engine_of self.now) YesIsSent }
+    {
+        match &self.feed {
+            Some(_) => {}
+            None => yes_of_idle(&self.idle),
         }
     }
 
@@ -112,5 +139,26 @@ fn codes_of_idle(idle: &Option<Engine>)
     match idle {
         Some(engine) => engine.codes_match_operations(),
         None => {}
+    }
+}
+
+/// What a yes promises of stubs over an engine, where there is one. It looks at each node once.
+fn yes_of_idle(idle: &Option<Engine>)
+    ensures { IfSome idle.now YesIsSent }
+{
+    match idle {
+        Some(engine) => a_yes_is_sent(engine),
+        None => {}
+    }
+}
+
+/// How the work ends where these answers are written.
+fn answers_status(answers: &[u8]) -> Status
+    ensures { result ≡ (if checked.has_refusal answers.now then Status.Refused else Status.Done) }
+{
+    if has_refusal(answers) {
+        Status::Refused
+    } else {
+        Status::Done
     }
 }

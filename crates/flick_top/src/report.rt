@@ -35,6 +35,9 @@ commands:\n\
 \x20                                reply, or by a dash; REPLIES has a reply record on each line\n\
 \x20 bridge FRONT BACK1 BACK2 FILE  answer each message in hexadecimal digits, which is one for\n\
 \x20                                BACK1, by that of the same request for BACK2\n\
+\x20 check FRONT BACK FILE STUBFILE\n\
+\x20                                answer each text of stub code in STUBFILE, whoever made it,\n\
+\x20                                by whether it sends the messages of its operation\n\
 \x20 stubs FRONT BACK FILE          write the stub code of each operation\n\
 \x20 show FRONT FILE                write the types and operations of FILE\n\
 \x20 make FRONT BACK FILE NUMBER N  make N requests from NUMBER on, and write what is counted\n\
@@ -97,6 +100,10 @@ pub enum Report {
     LargeReplies,
     /// A line of the file of replies gives no reply; its number, counted from 1.
     WrongReply(usize),
+    /// The file of stubs is not there.
+    NoStubs,
+    /// The file of stubs has more than 8,388,608 octets.
+    LargeStubs,
 }
 
 impl Report {
@@ -125,6 +132,8 @@ impl Report {
                 alloc,
                 format!(in alloc; "? replies {line}\n")?.as_bytes(),
             ),
+            Report::NoStubs => copied(alloc, b"? stubs file\n"),
+            Report::LargeStubs => copied(alloc, b"? stubs size\n"),
         }
     }
 
@@ -142,7 +151,9 @@ impl Report {
             | Report::Bind(_)
             | Report::NoReplies
             | Report::LargeReplies
-            | Report::WrongReply(_) => Status::File,
+            | Report::WrongReply(_)
+            | Report::NoStubs
+            | Report::LargeStubs => Status::File,
         }
     }
 }

@@ -16,5 +16,7 @@ pub mod Lines
 pub mod OperationsRead
 -- What is read nests within the levels that it is read with, by induction on levels and on lists
 pub mod Nesting
+-- What is read has the numbers of code, by induction on levels and on lists
+pub mod Small
 -- * A text that begins with the text of a stub is read as its parts, by induction on the codes that calls name
 pub mod Whole

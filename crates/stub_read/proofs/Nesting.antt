@@ -96,13 +96,13 @@ keeps l o p e h b k = subst (λ (q : Block → Block). NestsWithin l (q b)) (sym
 abbrev CasesNest : ℕ → List (ℤ × List SendOp) → Type 0
 CasesNest l cs = (last : Option (List SendOp)) → CasesNestWithin l (cases_seen [] last) → CasesNestWithin l (cases_seen cs last)
 
-weaker : {A : Type 0} (P Q : A → Type 0) (r : Reader A) → ((a : A) → P a → Q a) → Always P r → Always Q r
+pub weaker : {A : Type 0} (P Q : A → Type 0) (r : Reader A) → ((a : A) → P a → Q a) → Always P r → Always Q r
 weaker {A = A} P Q r k h t = go (r t) (h t) where
   go : (q : Read A) → IfRead P q → IfRead Q q
   go None g = tt
   go (Some x) g = k x.0 g
 
-deeper_has : {A : Type 0} (P : A → Type 0) (l : ℕ) (r : Reader A) → ((1 ≤ l) → Always P r) → Always P (deeper l r)
+pub deeper_has : {A : Type 0} (P : A → Type 0) (l : ℕ) (r : Reader A) → ((1 ≤ l) → Always P r) → Always P (deeper l r)
 deeper_has P zero r h t = tt
 deeper_has P (suc l) r h t = h (omega arith) t
 

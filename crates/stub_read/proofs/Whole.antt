@@ -3,6 +3,7 @@ use Rattle.std.proofs.Common.{◌≡◌, ◌≢◌, ℕ, zero, suc, ◌+◌, ◌
 use Rattle.std.specs.List.{prefix_len, starts_with}
 use Rattle.std.proofs.lemmas.Bool.{eqb-false}
 use Rattle.std.proofs.lemmas.List.Elements.{All-nil, All-cons}
+use Rattle.std.proofs.lemmas.List.{take-append-drop}
 use Rattle.std.proofs.lemmas.Slice.Eq.{starts_is}
 use Rattle.std.proofs.lemmas.Bool.Decides.{Decides-eqb}
 use Rattle.kit_base.specs.Lines.{HasNoEnd}
@@ -24,7 +25,8 @@ use Rattle.stub_read.proofs.Leaves.{line_reads, take_first}
 use Rattle.stub_read.proofs.PutsRead.{before_reads, line_long}
 use Rattle.stub_read.proofs.Lines.{block_long}
 use Rattle.stub_read.proofs.OperationsRead.{ops_of, seen_ops, ops_read}
-use Rattle.stub_read.proofs.Nesting.{IfRead, Always, Any, any_read, read_then, before_has, many_has, ops_nest, body_nests}
+use Rattle.stub_read.proofs.Nesting.{IfRead, Always, Any, any_read, read_then, before_has, many_has, OpsNest, ops_nest, body_nests}
+use Rattle.stub_read.proofs.Small.{OpsAreSmall, ops_small}
 
 -- ---- a text and what follows it
 
@@ -87,7 +89,7 @@ subs_append k (b ∷ bs) t u r e =
 abbrev pub stub_text : List ℕ → Block → List Block → List ℕ → List ℕ
 stub_text n a subs rest = line (codes "send") (n ∷ []) (block_text a (subs_text 0 subs (ended rest)))
 
-text_then : (n : List ℕ) (a : Block) (subs : List Block) (rest : List ℕ) → send_text n a subs ++ rest ≡ stub_text n a subs rest
+pub text_then : (n : List ℕ) (a : Block) (subs : List Block) (rest : List ℕ) → send_text n a subs ++ rest ≡ stub_text n a subs rest
 text_then n a subs rest =
     line_append (codes "send") (n ∷ []) _ (block_text a (subs_text 0 subs (ended rest))) rest
     (block_append a _ (subs_text 0 subs (ended rest)) rest
@@ -144,14 +146,14 @@ after_ops n a ws = then_on (before subs_at end_line ws) (λ ss xs. Some (parts_o
 abbrev after_name : List ℕ → Reader Parts
 after_name n vs = then_on (ops_at (suc deepest) vs) (after_ops n)
 
-pub parts_read : (n : List ℕ) (a : Block) (subs : List Block) (rest : List ℕ) → IsStub n a subs → IsSmall a → AllSmall subs
+pub parts_read : (n : List ℕ) (a : Block) (subs : List Block) (rest : List ℕ) → IsStub n a subs
     → parts_at (stub_text n a subs rest) ≡ Some (parts_of n (ops_of a) (map ops_of subs), rest)
 unfolding parts_at
-parts_read n a subs rest is s ss =
+parts_read n a subs rest is =
     let first = line_reads n (block_text a (subs_text 0 subs (ended rest))) is.name-is in
-    let code = code_reads a (subs_text 0 subs (ended rest)) is.nests s (subs_lead_none 0 subs rest) in
+    let code = code_reads a (subs_text 0 subs (ended rest)) is.nests is.small (subs_lead_none 0 subs rest) in
     let others = before_reads subs_at end_line (subs_text 0 subs (ended rest)) (ended rest) rest (map ops_of subs)
-    (subs_steps subs 0 rest (length (subs_text 0 subs (ended rest))) is.subs-nest ss (omega arith)) refl in
+    (subs_steps subs 0 rest (length (subs_text 0 subs (ended rest))) is.subs-nest is.subs-small (omega arith)) refl in
     then_reads (line_at (n ++ 10 ∷ block_text a (subs_text 0 subs (ended rest)))) after_name n
     (block_text a (subs_text 0 subs (ended rest))) (Some (parts_of n (ops_of a) (map ops_of subs), rest)) first
     (then_reads (ops_at (suc deepest) (block_text a (subs_text 0 subs (ended rest)))) (after_ops n) (ops_of a) (subs_text 0 subs
@@ -183,20 +185,26 @@ lines_have t = go (ltb (prefix_len stays t) (length t)) where
   go true = first_line t
   go false = tt
 
--- operations that nest within the levels of a text
+-- two facts of what is read
+both_hold : {A : Type 0} (P Q : A → Type 0) (q : Read A) → IfRead P q → IfRead Q q → IfRead (λ a. P a × Q a) q
+both_hold P Q None h k = tt
+both_hold P Q (Some x) h k = (h, k)
+
+-- operations that nest within the levels of a text, with the numbers of code
 abbrev OpsAreFew : List SendOp → Type 0
-OpsAreFew os = NestsWithin deepest (code_seen os)
+OpsAreFew os = NestsWithin deepest (code_seen os) × OpsAreSmall os
 
 codes_have : Always OpsAreFew (ops_at (suc deepest))
-codes_have t = ops_nest deepest (body_nests deepest) t
+codes_have t =
+    both_hold (OpsNest deepest) OpsAreSmall (ops_at (suc deepest) t) (ops_nest deepest (body_nests deepest) t) (ops_small (suc deepest) t)
 
 abbrev AllAreFew : List (List SendOp) → Type 0
-AllAreFew os = AllNest (map code_seen os)
+AllAreFew os = AllNest (map code_seen os) × AllSmall (map code_seen os)
 
 subs_have : Always AllAreFew (before subs_at end_line)
 subs_have =
     before_has AllAreFew subs_at end_line
-    (many_has OpsAreFew AllAreFew tt (λ x xs g i. (g, i)) (word_at (codes "sub ")) (λ u. sub_at)
+    (many_has OpsAreFew AllAreFew (tt, tt) (λ x xs g i. ((g.0, i.0), (g.1, i.1))) (word_at (codes "sub ")) (λ u. sub_at)
     (λ u t. read_then HasNoEnd OpsAreFew (line_at t) (λ w us. before (ops_at (suc deepest)) end_line us) (lines_have t)
     (λ w g. before_has OpsAreFew (ops_at (suc deepest)) end_line codes_have)))
 
@@ -210,7 +218,7 @@ parts_have t =
     (λ u g us. read_then HasNoEnd PartsAreStub (line_at us) _ (lines_have us)
     (λ n named vs. read_then OpsAreFew PartsAreStub (ops_at (suc deepest) vs) _ (codes_have vs)
     (λ a few ws. read_then AllAreFew PartsAreStub (before subs_at end_line ws) _ (subs_have ws)
-    (λ ss all xs. record { name-is = named; nests = few; subs-nest = all }))))
+    (λ ss all xs. record { name-is = named; nests = few.0; subs-nest = all.0; small = few.1; subs-small = all.1 }))))
 
 -- ---- what read_stub answers
 
@@ -238,14 +246,32 @@ text_again n a subs =
     ap (λ x. send_text n x (map code_seen (map ops_of subs))) (seen_ops a) ∙ ap (send_text n a) (seen_subs subs)
 
 -- a text that begins with the text of a stub tells its parts
-tells : (text n : List ℕ) (a : Block) (subs : List Block) (rest : List ℕ) → IsStub n a subs → IsSmall a → AllSmall subs
+tells : (text n : List ℕ) (a : Block) (subs : List Block) (rest : List ℕ) → IsStub n a subs
     → text ≡ send_text n a subs ++ rest → told (parts_at text) ≡ Some (parts_of n (ops_of a) (map ops_of subs))
-tells text n a subs rest is s ss e =
-    ap (λ t. told (parts_at t)) (e ∙ text_then n a subs rest) ∙ ap told (parts_read n a subs rest is s ss)
+tells text n a subs rest is e =
+    ap (λ t. told (parts_at t)) (e ∙ text_then n a subs rest) ∙ ap told (parts_read n a subs rest is)
+
+-- a text is the text of a stub that it begins with, and what follows
+pub begun : (text n : List ℕ) (a : Block) (subs : List Block) (used : ℕ) → Begins n a subs used text
+    → text ≡ send_text n a subs ++ drop used text
+begun text n a subs used h = sym (take-append-drop used text) ∙ ap (λ (x : List ℕ). x ++ drop used text) h.is-text
+
+-- a text begins with one stub
+pub one_begun : (text n m : List ℕ) (a b : Block) (subs others : List Block) (used also : ℕ) → Begins n a subs used text
+    → Begins m b others also text → (n ≡ m) × (a ≡ b) × (subs ≡ others)
+one_begun text n m a b subs others used also h k =
+    let parts : parts_of n (ops_of a) (map ops_of subs) ≡ parts_of m (ops_of b) (map ops_of others) =
+    same_parts (parts_of n (ops_of a) (map ops_of subs)) (parts_of m (ops_of b) (map ops_of others))
+    (sym (tells text n a subs (drop used text) h.is-stub (begun text n a subs used h))
+    ∙ tells text m b others (drop also text) k.is-stub (begun text m b others also k)) in (
+      ap (λ (x : Parts). x.0) parts,
+      sym (seen_ops a) ∙ ap (λ (x : Parts). code_seen x.1.0) parts ∙ seen_ops b,
+      sym (seen_subs subs) ∙ ap (λ (x : Parts). map code_seen x.1.1) parts ∙ seen_subs others,
+    )
 
 pub nothing_read : (text : List ℕ) → told (parts_at text) ≡ None → BeginsNone text
-nothing_read text none n a subs rest is s ss e =
-    let both_ways : Some (parts_of n (ops_of a) (map ops_of subs)) ≡ None = sym (tells text n a subs rest is s ss e) ∙ none in absurd cc
+nothing_read text none n a subs rest is e =
+    let both_ways : Some (parts_of n (ops_of a) (map ops_of subs)) ≡ None = sym (tells text n a subs rest is e) ∙ none in absurd cc
 
 pub found : (text printed : List ℕ) (x : Parts) (r : Bool) → told (parts_at text) ≡ Some x → printed ≡ text_of x
     → r ≡ starts_with eqb text printed → r ≡ true → Begins x.0 (code_seen x.1.0) (map code_seen x.1.1) (length printed) text
@@ -259,9 +285,9 @@ found text printed x r e is starts does =
 
 pub otherwise : (text printed : List ℕ) (x : Parts) (r : Bool) → told (parts_at text) ≡ Some x → printed ≡ text_of x
     → r ≡ starts_with eqb text printed → r ≡ false → BeginsNone text
-otherwise text printed x r e is starts fails n a subs rest stub s ss same =
+otherwise text printed x r e is starts fails n a subs rest stub same =
     let parts : x ≡ parts_of n (ops_of a) (map ops_of subs) =
-    same_parts x (parts_of n (ops_of a) (map ops_of subs)) (sym e ∙ tells text n a subs rest stub s ss same) in
+    same_parts x (parts_of n (ops_of a) (map ops_of subs)) (sym e ∙ tells text n a subs rest stub same) in
     let again : printed ≡ send_text n a subs = is ∙ ap text_of parts ∙ text_again n a subs in
     let does : r ≡ true = (starts_is Decides-eqb text printed r starts).1 rest (same ∙ ap (λ w. w ++ rest) (sym again)) in
     absurd cc

@@ -107,11 +107,13 @@ abbrev pub AllSmall : List Block → Type 0
 AllSmall [] = Unit {0}
 AllSmall (b ∷ bs) = IsSmall b × AllSmall bs
 
--- a name, a code and the codes that its calls name, as far as a text of theirs is read
+-- a name, a code and the codes that its calls name, whose text is read
 pub record IsStub (name : List ℕ) (code : Block) (subs : List Block) : Type 0 where
   pub name-is : HasNoEnd name
   pub nests : NestsWithin deepest code
   pub subs-nest : AllNest subs
+  pub small : IsSmall code
+  pub subs-small : AllSmall subs
 
 -- the first octets of a text, so many, are the text of a stub
 pub record Begins (name : List ℕ) (code : Block) (subs : List Block) (used : ℕ) (text : List ℕ) : Type 0 where
@@ -121,7 +123,7 @@ pub record Begins (name : List ℕ) (code : Block) (subs : List Block) (used : �
 
 -- no beginning of a text is the text of a stub
 abbrev pub BeginsNone : List ℕ → Type 0
-BeginsNone text = (name : List ℕ) (code : Block) (subs : List Block) (rest : List ℕ) → IsStub name code subs → IsSmall code → AllSmall subs
+BeginsNone text = (name : List ℕ) (code : Block) (subs : List Block) (rest : List ℕ) → IsStub name code subs
     → text ≡ send_text name code subs ++ rest → ⊥
 
 -- ---- reading

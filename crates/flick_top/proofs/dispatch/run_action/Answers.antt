@@ -4,7 +4,7 @@ use Rattle.flick_top.specs.Dispatch.{Acts}
 use Rattle.flick_top.specs.Command.{IsOverItems}
 use Rattle.flick_top.specs.declared.job.Job.TheVariants as jobs
 use Rattle.flick_top.specs.Task.{answering_task, task_in, writing_task}
-use Rattle.flick_top.proofs.OverFiles.{served-acts, made-acts}
+use Rattle.flick_top.proofs.OverFiles.{served-acts, checked-acts, made-acts}
 use Rattle.flick_top.proofs.Reading.{over_items}
 use Rattle.flick_top.proofs.Tasking.{is-in}
 use Rattle.flick_top.proofs.dispatch.run_action.Goals as goal
@@ -51,3 +51,8 @@ returns-in_ok-text-in-Make-clause-acts g c = λ files told.
     made-acts c.args.action c.in-Make.number c.in-Make.many c.args.engine c.args.words.now files c.of_text-in-Make.result
     c.in_ok-text-in-Make.text _ _ c.in-Make.is c.of_text-in-Make.ensures.value c.in_ok-text-in-Make.ensures.value
     c.in_ok-text-in-Make.ensures.sends
+
+pub returns-in-Check-clause-acts : goal.returns-in-Check-clause-acts
+returns-in-Check-clause-acts g c =
+    checked-acts c.check_file.result c.args.action c.in-Check.stubs c.args.engine c.args.words.now _ c.word_at-in-Check.result.now _
+    c.in-Check.is c.word_at-in-Check.ensures c.check_file.ensures.checks

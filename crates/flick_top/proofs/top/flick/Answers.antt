@@ -1,6 +1,6 @@
 use Rattle.std.proofs.Common.{refl}
 use Rattle.flick_top.proofs.Completing.{completes}
-use Rattle.flick_top.proofs.Reading.{needs-items}
+use Rattle.flick_top.proofs.Reading.{needs-items, yes-left}
 use Rattle.flick_top.proofs.Tasking.{shapeless-work, work-of}
 use Rattle.flick_top.proofs.top.flick.Goals as goal
 
@@ -36,3 +36,8 @@ returns-in-Ok-clause-exceeds g c =
     rw c.number-in-Ok.ensures
     (needs-items 8 c.args.words.now _ _ c.in-Ok.prepared.feed _ c.command_of.ensures.value c.in-Some.is c.in-Ok.ensures.items
     (λ none. ((c.perform-status.ensures.done f all c.codes_match_operations.ensures).unread none).3))
+
+pub returns-in-Ok-clause-yes : goal.returns-in-Ok-clause-yes
+returns-in-Ok-clause-yes g c =
+    yes-left c.args.words.now _ _ c.in-Ok.prepared.feed _ _ c.command_of.ensures.value c.in-Some.is c.in-Ok.ensures.items
+    c.into_engine.ensures c.yes_is_sent.ensures

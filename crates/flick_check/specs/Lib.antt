@@ -1,0 +1,3 @@
+pub mod Files
+pub mod Checked
+pub mod Laws

@@ -1,0 +1,7 @@
+use Rattle.flick_top.proofs.Front.{checked-decides}
+use Rattle.flick_top.proofs.dispatch.check_file.Goals as goal
+
+pub returns-in_ok-check_text-in-Ok-clause-checks : goal.returns-in_ok-check_text-in-Ok-clause-checks
+returns-in_ok-check_text-in-Ok-clause-checks g c = λ files reported.
+    checked-decides c.args.engine _ files c.args.path.now c.in-Ok.text _ c.in-Ok.ensures.content reported
+    c.in_ok-check_text-in-Ok.ensures.checks

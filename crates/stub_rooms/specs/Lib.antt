@@ -1,0 +1,4 @@
+pub mod RoomsShown
+pub mod CoversLap
+pub mod CoversStanding
+pub mod TurnsMade
