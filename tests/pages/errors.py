@@ -19,7 +19,7 @@ An entry has the meaning, an example, and what may help. `tests/print_docs` prin
 """
 # Sentences of what no variant stands for; and what is worth knowing besides.
 SAID = {"! long": "The line is above its limit and was not read, or its message would be above the limit.", "! json": "The line is not JSON.", "! hex": "",
-        "? syntax": "The definition that begins on line LINE has no tree.",
+        "? syntax": "The definition that begins on line LINE has no tree; of CORBA it may be a module.",
         "? replies": "Line LINE, from 1 over all, is no reply record with a message, or its operation has one already. A head number and `refused` are not taken.",
         "! pair": "BACK2 has no operation of the interface and name that the message calls.",
         "! frame Cut": "The stream ends within a message.",
