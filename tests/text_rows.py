@@ -1,4 +1,4 @@
-"""What the commands `show`, `make`, `stubs` and `count` write: of rows, tests/texts/NAME.json, and of random files.
+"""What the commands `show`, `make`, `stubs`, `check` and `count` write: of rows, tests/texts/NAME.json, and of random files.
 
 A table has an interface file, as those of tests/lines, and its language as `front`; a row may have a `file` of its own. A
 row of `show` has what it writes, and so has one of `make`, whose `words` are its number and how many messages it makes,
@@ -9,10 +9,14 @@ Which code a stub has is not fixed. `stubs` has to write the text of stubs that 
 for values made of some numbers. A row of `count` has a line, the digits that answer it, and as `most` how often its code
 may look at the buffer, and where it has them as `moves` and `stores` how often it may move the cursor and store; what
 follows the digits has to be the cost of the code that is printed, as tests/model runs it.
+
+A row of `check` has the texts of its file as `stubs`, as those of interface files are (null where there is no file; true for
+what `stubs` writes), and the lines that are written.
 """
 import json
 import os
 import random
+import re
 import subprocess
 import sys
 import tempfile
@@ -20,12 +24,14 @@ from functools import lru_cache
 
 TOP = os.path.dirname(os.path.dirname(os.path.abspath(__file__)))
 sys.path.insert(0, f"{TOP}/tests/model")
+import checking  # noqa: E402
 import corba_names  # noqa: E402
 import counting  # noqa: E402
 import files  # noqa: E402
 import making  # noqa: E402
 import mig  # noqa: E402
 from calls import BACKS, lines_of, marshal  # noqa: E402
+from stub_samples import stubs_text  # noqa: E402
 
 SECONDS = 1800
 INTERFACES = {"onc": files.interfaces_of, "corba": corba_names.interfaces_of, "mig": mig.interfaces_of}
@@ -74,8 +80,38 @@ def run(program, words, given=""):
     return (ran.stdout + ran.stderr).decode("latin-1"), ran.returncode
 
 
+def checked(program, front, back, path, octets):
+    """What `check` writes over a file of stubs, which is not there where that is None, and its status."""
+    given = f"{path}.stubs"
+    if os.path.exists(given):
+        os.remove(given)
+    if octets is not None:
+        with open(given, "wb") as file:
+            file.write(octets)
+    return run(program, ["check", front, back, path, given])
+
+
+def stubs_in(row, own):
+    """The octets of a row's file of stubs, or None; `own` gives the texts of the kit's own."""
+    return None if row["stubs"] is None else own().encode() if row["stubs"] is True else spelled(row["stubs"]).encode("latin-1")
+
+
+def replay_check(program, row, front, path):
+    """What is wrong with the answer to a row of `check`."""
+    octets = stubs_in(row, lambda: run(program, ["stubs", front, row["over"], path])[0])
+    told, status = checked(program, front, row["over"], path, octets)
+    return difference("wrote", "".join(f"{line}\n" for line in row["answer"]), told) + difference("status", status_of(row["answer"]), status)
+
+
+def status_of(lines):
+    """The status that comes with lines."""
+    return 3 if any(line.startswith("?") for line in lines) else int(any(line.startswith("!") for line in lines))
+
+
 def replay_text(program, row, front, text, path):
-    """What is wrong with the answer to a row of `show`, `make` or `stubs`."""
+    """What is wrong with the answer to a row of `show`, `make`, `stubs` or `check`."""
+    if row["command"] == "check":
+        return replay_check(program, row, front, path)
     answer = spelled(row.get("answer", ""))
     if row["command"] == "stubs" and not answer:
         return wrong_stubs(program, random.Random(1), front, row["over"], path, INTERFACES[front](text))
@@ -142,6 +178,17 @@ def wrong_stubs(program, rng, front, back, path, interfaces):
     return [wrong] * bool(wrong) + difference("status", 0, status)
 
 
+def wrong_check(program, front, back, path, interfaces):
+    """What is wrong with what is said of the kit's own stubs, and of these with an empty chunk more: each sends what it should."""
+    texts = run(program, ["stubs", front, back, path])[0]
+    wanted = "".join(f"yes {request.name}\n" for request in counting.requests_of(back, interfaces))
+    for what, given in (("of its own", texts), ("of others", re.sub("^(send .*)$", "\\1\nchunk 0\nend", texts, flags=re.M))):
+        told, status = checked(program, front, back, path, given.encode("latin-1"))
+        if wrong := difference(f"{what} wrote", wanted, told) + difference("status", 0, status):
+            return wrong
+    return []
+
+
 def wrong_count(program, front, back, path, interfaces, given):
     """What is wrong with the answers to an input, and with the texts before them."""
     ran = subprocess.run([program, "count", front, back, path], input=given, capture_output=True, timeout=SECONDS)
@@ -162,12 +209,13 @@ def wrong_texts(program, rng, front, back, path, text, interfaces, given):
     refusal = making.refusal_of(front, back, text)
     yield "show", wrong_show(program, front, path, text)
     if refusal:
-        for words in (["make", front, back, path, "1", "1"], ["stubs", front, back, path], ["count", front, back, path]):
+        for words in (["make", front, back, path, "1", "1"], ["stubs", front, back, path], ["check", front, back, path, path], ["count", front, back, path]):
             told, status = run(program, words)
             yield words[0], difference("wrote", f"{refusal}\n", told) + difference("status", 3, status)
         return
     yield "make", wrong_make(program, front, back, path, interfaces, rng.randrange(2 ** 64), rng.randint(0, 30))
     yield "stubs", wrong_stubs(program, rng, front, back, path, interfaces)
+    yield "check", wrong_check(program, front, back, path, interfaces)
     yield "count", wrong_count(program, front, back, path, interfaces, given)
 
 
@@ -178,13 +226,21 @@ def made(front, over, text, number, times):
     return making.make(over, INTERFACES[front](text), int(number), int(times))
 
 
+def modelled_check(row, interfaces):
+    """The answer to a row of `check`, and the model's by its own stubs."""
+    wanted = "".join(f"{line}\n" for line in row["answer"]).encode("latin-1"), status_of(row["answer"])
+    return wanted, checking.check(row["over"], interfaces, stubs_in(row, lambda: stubs_text(row["over"], interfaces)))
+
+
 def modelled(row, front, text):
     """The answer to a row, and the model's. That to `count` has as often as its code may look at the buffer beside it."""
-    command, answer = row["command"], spelled(row.get("answer", ""))
+    command, answer = row["command"], row.get("answer", "") if row["command"] == "check" else spelled(row.get("answer", ""))
     if command == "show":
         return answer, making.shown(front, text)
     if refusal := making.refusal_of(front, row["over"], text):
-        return answer, refusal
+        return answer, [refusal] if command == "check" else refusal
+    if command == "check":
+        return modelled_check(row, INTERFACES[front](text))
     if command == "make":
         return answer, made(front, row["over"], text, *row["words"])
     if command == "stubs":
@@ -194,10 +250,16 @@ def modelled(row, front, text):
     return (answer, told) if told.startswith("!") else (f"{answer} {row['most']}", f"{told} {counting.regions_of(row['over'], interfaces, line)}")
 
 
+def first_of(row):
+    """The beginning of an answer; a file of stubs that is refused is known to the model."""
+    answer = row.get("answer", "")
+    return spelled(answer) if row["command"] != "check" else next((line for line in answer if not line.startswith("? stubs")), "")
+
+
 def text_rows(only=()):
     """Each row of the tables, its answer and the model's, which does not know why a file of ONC is refused."""
     for name, table in tables(only):
         for text, rows in texts_of(table):
             for row in rows:
-                if table["front"] != "onc" or not spelled(row.get("answer", "")).startswith("?"):
+                if table["front"] != "onc" or not first_of(row).startswith("?"):
                     yield f"tests/texts/{name}.json: {row['name']}: {row['command']}", *modelled(row, table["front"], text)

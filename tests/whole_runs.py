@@ -27,9 +27,13 @@ from replies import BACKS as REPLIES  # noqa: E402
 from replies import reply  # noqa: E402
 from samples import call_lines, request_lines  # noqa: E402
 from serving_samples import given_lines, refused_lines, replied_lines, reply_lines, served_lines  # noqa: E402
+from counting import requests_of  # noqa: E402
+from stub_samples import stubs_text  # noqa: E402
+from stub_texts import stubs_of  # noqa: E402
+from stubs import edited_stub  # noqa: E402
 
 FRONTS = ("onc", "corba", "mig")
-COMMANDS = ("marshal", "unmarshal", "reply", "unreply", "pipe", "unpipe", "serve", "bridge", "show", "stubs", "count", "make")
+COMMANDS = ("marshal", "unmarshal", "reply", "unreply", "pipe", "unpipe", "serve", "bridge", "show", "stubs", "check", "count", "make")
 SEED = 1
 LINES = 24
 MESSAGES = 12
@@ -37,6 +41,7 @@ LONG = 400  # numbers of a long line
 BLANKS = 70_000  # around a record in the longest line
 LONGEST = 2_000  # of the files and lines of other tables
 LONGEST_CASE = 20_000
+CHECKED = 20  # files of stubs of a table
 # The rows that are runs of their own, by table: of one its record and its message, of the other all in one run.
 WORKED = {"calc": "a call of two numbers", "corba": "two numbers, big", "mig": "a request over Mach"}
 WORKED_SERVING = "serve_worked_onc"
@@ -118,6 +123,15 @@ def text_of(front, back):
     return TEXTS[front] + RAISING * (front == "corba" and back.startswith("cdr"))
 
 
+def checked_texts(rng, back, interfaces):
+    """Files of stubs: the model's own, one edited text of each operation, and one that is none."""
+    texts = stubs_text(back, interfaces)
+    yield "stubs", texts.encode()
+    edited = [edited_stub(rng, request, stub) for request, stub in zip(requests_of(back, interfaces), stubs_of(texts)[::2])]
+    yield "edited stubs", "".join(edited).encode("latin-1", "replace")
+    yield "no stub", b"send x\nensure 048\nend\n"
+
+
 def pair_runs(room, front, back):
     """Each command over a pair."""
     rng, text = random.Random(f"{SEED}/{front}/{back}"), text_of(front, back)
@@ -143,6 +157,8 @@ def pair_runs(room, front, back):
     to = [*BACKS, *BACKS][[*BACKS].index(back) + 1]
     yield run_of(f"bridge {front} {back} {to}", room.path, ["bridge", front, back, to, file], joined(calls))
     yield run_of(f"stubs {front} {back}", room.path, ["stubs", front, back, file])
+    for name, texts in checked_texts(rng, back, interfaces):
+        yield run_of(f"check {front} {back} of {name}", room.path, ["check", front, back, file, room.lay(texts)])
     yield run_of(f"make {front} {back}", room.path, ["make", front, back, file, str(SEED), str(MESSAGES)])
 
 
@@ -220,6 +236,9 @@ def text_runs(room, tables):
                 for command, *more in (["make", "1", "4"], ["stubs"], ["count"]):
                     given = joined(line for line in lines if len(line) <= LONGEST) if command == "count" else b""
                     yield run_of(f"{table} by {command} over {back}", room.path, [command, front, back, file, *more], given)
+                stubs = [text for row in rows if row["command"] == "check" and row["over"] == back and isinstance(row["stubs"], str) for text in [row["stubs"].encode("latin-1")] if len(text) <= LONGEST]
+                for number, octets in enumerate(stubs[:CHECKED]):
+                    yield run_of(f"{table} by check over {back}, {number}", room.path, ["check", front, back, file, room.lay(octets)])
 
 
 def names_in(folder):

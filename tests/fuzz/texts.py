@@ -1,4 +1,4 @@
-"""What `show`, `make`, `stubs` and `count` write over an edited file of which it is known what `marshal` said."""
+"""What `show`, `make`, `stubs`, `check` and `count` write over an edited file of which it is known what `marshal` said."""
 import os
 import re
 import sys
@@ -8,7 +8,7 @@ sys.path.insert(0, f"{TOP}/tests")
 import making  # noqa: E402
 from forms import NUMBER  # noqa: E402
 from sources import LONGEST_READ, UNREAD, generator, interfaces_of  # noqa: E402
-from text_rows import difference, run, wrong_count, wrong_make, wrong_stubs  # noqa: E402
+from text_rows import difference, run, wrong_check, wrong_count, wrong_make, wrong_stubs  # noqa: E402
 
 NAME = r"[A-Za-z_][\w.]*|"
 SHOWN = re.compile(rf"(type ({NAME}) = \S.*|interface ({NAME}) program {NUMBER} version {NUMBER} base {NUMBER}|"
@@ -41,7 +41,7 @@ def wrong_texts(program, front, back, path, text, saying, lines):
     """What is wrong with what each command writes; the lines are for `count`."""
     yield "show", wrong_show(program, front, path, text, saying)
     if saying:
-        for words in (["make", front, back, path, "1", "1"], ["stubs", front, back, path], ["count", front, back, path]):
+        for words in (["make", front, back, path, "1", "1"], ["stubs", front, back, path], ["check", front, back, path, path], ["count", front, back, path]):
             told, status = run(program, words)
             yield words[0], difference("wrote", f"{saying}\n", told) + difference("status", 3, status)
         return
@@ -49,6 +49,7 @@ def wrong_texts(program, front, back, path, text, saying, lines):
     if 0 < sum(len(interface.operations) for interface in interfaces) <= MOST_OPERATIONS:
         yield "make", wrong_make(program, front, back, path, interfaces, len(text), 5)
         yield "stubs", wrong_stubs(program, generator("stubs", text), front, back, path, interfaces)
+        yield "check", wrong_check(program, front, back, path, interfaces)
         yield "count", wrong_count(program, front, back, path, interfaces, b"".join(line + b"\n" for line in lines))
     else:
         told, status = run(program, ["make", front, back, path, "1", "2"])

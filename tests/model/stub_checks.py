@@ -5,6 +5,9 @@
 each octet was ensured before it. Run by itself it makes random types, values and codes, changes codes, and looks for two
 with the same `flat` that send other octets, and for one that `covers` takes and that has no room. Code has the form of
 stub_texts.py, values and nodes that of nodes.py. As all of the model it is written from docs/, with nothing of the crates.
+
+What a body leaves of places and of rooms is kept, so that a text takes no more time where its loops are nested. A code whose
+runs are more than are made here is not judged.
 """
 import random
 import sys
@@ -13,9 +16,9 @@ from nodes import WIDTHS, greatest, is_exact, count_of, least, numbers_of, arm_o
 from stub_runs import Sending, Undefined
 from stub_texts import Stub, stubs_of
 
-ALL = frozenset(range(8))
-START = frozenset([0])
+ALL, START = 255, 1  # sets of residues of the position by 8, a bit each
 MOST_TURNS = 8192
+MOST_RUNS = 400_000  # of operations, in this model
 
 
 class NoFlat(Exception):
@@ -24,6 +27,10 @@ class NoFlat(Exception):
 
 class Refused(Exception):
     """A code that lacks room."""
+
+
+class TooMuch(Exception):
+    """A code that takes more runs of operations than are made here."""
 
 
 # ---- the types of places: the number of a node, or None where nothing is known
@@ -70,7 +77,8 @@ def other_arm(nodes, spot, cases):
     """The default of a union, where there is a case for each of its arms."""
     if spot is None or nodes[spot][0] != "choice" or len(nodes[spot]) < 4:
         return None
-    return nodes[spot][3] if all(n in [m for m, _ in cases] for n, _ in nodes[spot][2]) else None
+    named = {m for m, _ in cases}
+    return nodes[spot][3] if all(n in named for n, _ in nodes[spot][2]) else None
 
 
 def bodies_of(nodes, spot, cases, other):
@@ -79,50 +87,80 @@ def bodies_of(nodes, spot, cases, other):
     return named + ([(None, other, other_arm(nodes, spot, cases))] if other is not None else [])
 
 
-# ---- residues of the position by 8
-
-def moved(n, places):
-    return frozenset((r + n) % 8 for r in places)
-
-
-def aligned(a, places):
-    return frozenset((r + -r % a) % 8 for r in places) if a in (1, 2, 4, 8) else places
-
-
-def closed(f, places):
-    while True:
-        more = places | f(places)
-        if more == places:
-            return places
-        places = more
-
-
 def row_width(nodes, spot, word):
     kind = kind_of(nodes, spot)
     return 4 if word == "row_wide" else WIDTHS[kind] if kind else 0
 
 
-def leaves(nodes, spot, code, places):
-    """The places behind code, from those before it."""
-    for (word, *words), body in code:
-        if word == "chunk":
-            places = moved(words[0], places)
-        elif word == "align":
-            places = aligned(words[0], places)
-        elif word == "call":
-            places = ALL
-        elif word in ("row_copy", "row_swap", "row_wide"):
-            width = row_width(nodes, spot_at(nodes, spot, words[0]), word)
-            places = closed(lambda p: moved(width, p), places)
-        elif word == "each":
-            inner = element(nodes, spot_at(nodes, spot, words[0]))
-            places = closed(lambda p: leaves(nodes, inner, body, p), places)
-        elif word == "some":
-            places = places | leaves(nodes, present(nodes, spot_at(nodes, spot, words[0])), body, places)
-        elif word == "switch":
-            ways = [leaves(nodes, at, code, places) for _, code, at in bodies_of(nodes, spot_at(nodes, spot, words[0]), *body)]
-            places = frozenset().union(*ways)
+# ---- residues of the position by 8
+
+def moved(n, places):
+    twice = (places | places << 8) << n % 8
+    return twice >> 8 & ALL
+
+
+def residues(places):
+    return [r for r in range(8) if places >> r & 1]
+
+
+def aligned(a, places):
+    if a not in (1, 2, 4, 8):
+        return places
+    found = 0
+    for r in residues(places):
+        found |= 1 << (r + -r % a) % 8
+    return found
+
+
+def closed(f, places):
+    while (more := places | f(places)) != places:
+        places = more
     return places
+
+
+class Places:
+    """The places behind code. What a body leaves is kept by the body, which lives as long as this does."""
+
+    def __init__(self, nodes):
+        self.nodes, self.left = nodes, {}
+
+    def leaves(self, spot, code, places):
+        """The places behind code, from those before it."""
+        key = id(code), spot, places
+        if key not in self.left:
+            left = places
+            for op in code:
+                left = self.behind(spot, op, left)
+            self.left[key] = left, code
+        return self.left[key][0]
+
+    def behind(self, spot, op, places):
+        """The places behind an operation."""
+        nodes, ((word, *words), body) = self.nodes, op
+        if word == "chunk":
+            return moved(words[0], places)
+        if word == "align":
+            return aligned(words[0], places)
+        if word == "call":
+            return ALL
+        if word in ("row_copy", "row_swap", "row_wide"):
+            width = row_width(nodes, spot_at(nodes, spot, words[0]), word)
+            return closed(lambda p: moved(width, p), places)
+        if word == "each":
+            return self.turns(spot, words[0], body, places)
+        if word == "some":
+            return places | self.leaves(present(nodes, spot_at(nodes, spot, words[0])), body, places)
+        if word == "switch":
+            found = 0
+            for _, inner, at in bodies_of(nodes, spot_at(nodes, spot, words[0]), *body):
+                found |= self.leaves(at, inner, places)
+            return found
+        return places
+
+    def turns(self, spot, path, body, places):
+        """The places before and behind each turn of a loop."""
+        inner = element(self.nodes, spot_at(self.nodes, spot, path))
+        return closed(lambda p: self.leaves(inner, body, p), places)
 
 
 # ---- flat
@@ -132,19 +170,30 @@ def ordered(source, width, order):
     return [("part", source, n) for n in below]
 
 
+def put_length(word, words):
+    """How many octets a put has."""
+    if word == "const":
+        return len(words[0])
+    if word == "short":
+        return 4
+    if words[-2] not in (1, 2, 4, 8):
+        raise NoFlat("a width")
+    return words[-2]
+
+
 def put_items(word, words):
     if word == "const":
         return [("fixed", o) for o in words[0]]
     if word == "short":
         return ordered((word, *words), 4, "little")
     *source, width, order = words
-    if width not in (1, 2, 4, 8):
-        raise NoFlat("a width")
     return ordered((word, *source), width, order)
 
 
 def chunk_items(size, puts):
     """The octets of a chunk, each from one put."""
+    if sum(put_length(word, words) for _, word, *words in puts) != size:
+        raise NoFlat("an octet of no put, or of two")
     cells = [None] * size
     for offset, word, *words in puts:
         items = put_items(word, words)
@@ -154,14 +203,12 @@ def chunk_items(size, puts):
             if cells[place] is not None:
                 raise NoFlat("an octet of two puts")
             cells[place] = item
-    if None in cells:
-        raise NoFlat("an octet of no put")
     return cells
 
 
-def items(nodes, spot, code, places):
+def items(known, spot, code, places):
     """The items of code, from these places."""
-    found = []
+    nodes, found = known.nodes, []
     for op in code:
         (word, *words), body = op
         at = spot_at(nodes, spot, words[0]) if word not in ("ensure", "chunk", "align", "call", "patch") else None
@@ -172,22 +219,21 @@ def items(nodes, spot, code, places):
         elif word == "align":
             if words[0] not in (1, 2, 4, 8):
                 raise NoFlat("an align")
-            found += [("fixed", 0)] * (-min(places) % words[0]) if len(places) == 1 else [("zeros", words[0])]
+            found += [("fixed", 0)] * (-residues(places)[0] % words[0]) if places.bit_count() == 1 else [("zeros", words[0])]
         elif word in ("row_copy", "row_swap", "row_wide"):
             if kind_of(nodes, at) is None:
                 raise NoFlat("a row operation of no row")
             order = {"row_copy": "little", "row_swap": "big", "row_wide": words[-1]}[word]
             found.append(("loop", words[0], ordered(("num", ()), row_width(nodes, at, word), order)))
         elif word == "each":
-            inner = element(nodes, at)
-            found.append(("loop", words[0], items(nodes, inner, body, closed(lambda p: leaves(nodes, inner, body, p), places))))
+            found.append(("loop", words[0], items(known, element(nodes, at), body, known.turns(spot, words[0], body, places))))
         elif word == "some":
-            found.append(("present", words[0], items(nodes, present(nodes, at), body, places)))
+            found.append(("present", words[0], items(known, present(nodes, at), body, places)))
         elif word == "switch":
-            found.append(("ways", words[0], [(n, items(nodes, arm, code, places)) for n, code, arm in bodies_of(nodes, at, *body)]))
+            found.append(("ways", words[0], [(n, items(known, inner, code, places)) for n, code, inner in bodies_of(nodes, at, *body)]))
         elif word in ("call", "patch"):
             found.append((word, *words))
-        places = leaves(nodes, spot, [op], places)
+        places = known.behind(spot, op, places)
     return found
 
 
@@ -208,7 +254,7 @@ def calls_in(nodes, spot, code):
 def spots_of(nodes, id, stub):
     """The node of each code that calls number."""
     spots, todo = {}, [(id, stub.code)]
-    while todo:
+    while todo and stub.subs:
         for k, spot in calls_in(nodes, *todo.pop()):
             if k >= len(stub.subs):
                 continue
@@ -223,24 +269,49 @@ def spots_of(nodes, id, stub):
 
 
 def flat(nodes, id, stub):
-    spots = spots_of(nodes, id, stub)
-    return items(nodes, id, stub.code, START), [items(nodes, spot, code, ALL) for spot, code in zip(spots, stub.subs)]
+    known, spots = Places(nodes), spots_of(nodes, id, stub)
+    return items(known, id, stub.code, START), [items(known, spot, code, ALL) for spot, code in zip(spots, stub.subs)]
 
 
-# ---- covers: rooms are a room for each residue to which a way leads
+# ---- covers: rooms are a room for each residue, None where no way leads there
 
-def least_of(*rooms):
-    return {r: min(s[r] for s in rooms if r in s) for r in set().union(*rooms)}
+NOWHERE = (None,) * 8
+
+
+def all_zero(places):
+    return tuple(0 if places >> r & 1 else None for r in range(8))
+
+
+def reached(rooms):
+    return sum(1 << r for r, room in enumerate(rooms) if room is not None)
+
+
+def least_of(first, second):
+    return tuple(b if a is None else a if b is None or a <= b else b for a, b in zip(first, second))
 
 
 def took(n, rooms):
-    if any(room < n for room in rooms.values()):
-        raise Refused("octets without room")
-    return {(r + n) % 8: room - n for r, room in rooms.items()}
+    found = [None] * 8
+    for r, room in enumerate(rooms):
+        if room is not None:
+            if room < n:
+                raise Refused("octets without room")
+            found[(r + n) % 8] = room - n
+    return tuple(found)
+
+
+def only(r, room):
+    return tuple(room if each == r else None for each in range(8))
 
 
 def padded(a, rooms):
-    return least_of({}, *(took(-r % a, {r: room}) for r, room in rooms.items())) if a in (1, 2, 4, 8) else rooms
+    if a not in (1, 2, 4, 8):
+        return rooms
+    found = NOWHERE
+    for r, room in enumerate(rooms):
+        if room is not None:
+            found = least_of(found, took(-r % a, only(r, room)))
+    return found
 
 
 def is_plain(code):
@@ -252,87 +323,134 @@ def is_plain(code):
     return True
 
 
-def passes(f, rooms):
-    try:
-        f(rooms)
-        return True
-    except Refused:
-        return False
+class Rooms(Places):
+    """Runs of code with rooms. What a body makes of rooms is kept; `runs` counts the runs of operations that are made, and
+    `all_runs` those of one who keeps nothing, but ends turns where rooms come back."""
 
+    def __init__(self, nodes):
+        super().__init__(nodes)
+        self.made, self.plain, self.runs, self.all_runs = {}, {}, 0, 0
 
-def looped(f, reach, plain, most, unit, rooms):
-    if unit is not None and plain and all(passes(f, {r: unit}) for r in reach):
-        return dict.fromkeys(reach, min(rooms.values())) if rooms else {}
-    if most is not None and most <= MOST_TURNS:
+    def run(self, spot, code, rooms):
+        """The rooms behind code, from those before it."""
+        key = id(code), spot, rooms
+        if key in self.made:
+            self.all_runs += self.made[key][1]
+        else:
+            before = self.all_runs
+            try:
+                found = self.run_ops(spot, code, rooms)
+            except Refused:
+                found = None
+            self.made[key] = found, self.all_runs - before, code
+        if self.made[key][0] is None:
+            raise Refused("a body that lacks room")
+        return self.made[key][0]
+
+    def is_plain(self, code):
+        if id(code) not in self.plain:
+            self.plain[id(code)] = is_plain(code)
+        return self.plain[id(code)]
+
+    def run_ops(self, spot, code, rooms):
+        nodes, credit = self.nodes, None
+        self.runs += len(code)
+        self.all_runs += len(code)
+        if self.runs > MOST_RUNS:
+            raise TooMuch
+        for (word, *words), body in code:
+            if word == "ensure":
+                rooms, credit = tuple(room if room is None else max(room, words[0]) for room in rooms), None
+            elif word == "ensure_row":
+                if not is_list(nodes, spot_at(nodes, spot, words[0])):
+                    raise Refused("an ensure_row of no list")
+                rooms, credit = tuple(room if room is None else words[2] for room in rooms), (words[0], words[1])
+            elif word == "chunk":
+                rooms = took(words[0], rooms)
+            elif word == "align":
+                rooms = padded(words[0], rooms)
+            elif word in ("row_copy", "row_swap", "row_wide", "each"):
+                rooms, credit = self.loop(spot, word, words[0], body, credit[1] if credit and credit[0] == words[0] else None, rooms), None
+            elif word == "some":
+                rooms, credit = least_of(rooms, self.run(present(nodes, spot_at(nodes, spot, words[0])), body, rooms)), None
+            elif word == "switch":
+                ways, credit = NOWHERE, None
+                for _, code_, at in bodies_of(nodes, spot_at(nodes, spot, words[0]), *body):
+                    ways = least_of(ways, self.run(at, code_, rooms))
+                rooms = ways
+            elif word == "call":
+                rooms, credit = all_zero(ALL), None
+        return rooms
+
+    def loop(self, spot, word, path, body, unit, rooms):
+        """The rooms behind a row operation or a loop; `unit` is that of its credit."""
+        at = spot_at(self.nodes, spot, path)
+        if word == "each":
+            inner, reach = element(self.nodes, at), self.turns(spot, path, body, reached(rooms))
+            return self.looped(lambda s: self.run(inner, body, s), reach, self.is_plain(body), most_of(self.nodes, at), unit, rooms)
+        if kind_of(self.nodes, at) is None:
+            raise Refused("a row operation of no row")
+        width = row_width(self.nodes, at, word)
+        return self.looped(lambda s: took(width, s), closed(lambda p: moved(width, p), reached(rooms)), True, most_of(self.nodes, at), unit, rooms)
+
+    def looped(self, f, reach, plain, most, unit, rooms):
+        if unit is not None and plain and all(self.passes(f, only(r, unit)) for r in residues(reach)):
+            least = min((room for room in rooms if room is not None), default=None)
+            return tuple(least if reach >> r & 1 else None for r in range(8))
+        if most is not None and most <= MOST_TURNS:
+            try:
+                return self.turned(f, most, rooms)
+            except Refused:
+                pass
+        f(all_zero(reach))
+        return all_zero(reach)
+
+    def passes(self, f, rooms):
         try:
-            seen, now = [rooms], rooms
-            for _ in range(most):
-                now = f(now)
-                if now in seen:
-                    break
-                seen.append(now)
-            return least_of(*seen)
+            f(rooms)
+            return True
         except Refused:
-            pass
-    f(dict.fromkeys(reach, 0))
-    return dict.fromkeys(reach, 0)
+            return False
+
+    def turned(self, f, most, rooms):
+        """The least rooms of so many turns, which end where rooms come back."""
+        low, seen = rooms, {rooms}
+        for _ in range(most):
+            rooms = f(rooms)
+            self.runs += 1
+            self.all_runs += 1
+            if rooms in seen:
+                break
+            seen.add(rooms)
+            low = least_of(low, rooms)
+        return low
 
 
-def run(nodes, spot, code, rooms):
-    """The rooms behind code, from those before it."""
-    credit = None
-    for (word, *words), body in code:
-        if word == "ensure":
-            rooms, credit = {r: max(room, words[0]) for r, room in rooms.items()}, None
-        elif word == "ensure_row":
-            if not is_list(nodes, spot_at(nodes, spot, words[0])):
-                raise Refused("an ensure_row of no list")
-            rooms, credit = dict.fromkeys(rooms, words[2]), (words[0], words[1])
-        elif word == "chunk":
-            rooms = took(words[0], rooms)
-        elif word == "align":
-            rooms = padded(words[0], rooms)
-        elif word in ("row_copy", "row_swap", "row_wide", "each"):
-            at = spot_at(nodes, spot, words[0])
-            unit = credit[1] if credit and credit[0] == words[0] else None
-            if word == "each":
-                inner = element(nodes, at)
-                f, g, plain = (lambda s: run(nodes, inner, body, s)), (lambda p: leaves(nodes, inner, body, p)), is_plain(body)
-            else:
-                if kind_of(nodes, at) is None:
-                    raise Refused("a row operation of no row")
-                width = row_width(nodes, at, word)
-                f, g, plain = (lambda s: took(width, s)), (lambda p: moved(width, p)), True
-            rooms, credit = looped(f, closed(g, frozenset(rooms)), plain, most_of(nodes, at), unit, rooms), None
-        elif word == "some":
-            rooms, credit = least_of(rooms, run(nodes, present(nodes, spot_at(nodes, spot, words[0])), body, rooms)), None
-        elif word == "switch":
-            ways = [run(nodes, at, code_, rooms) for _, code_, at in bodies_of(nodes, spot_at(nodes, spot, words[0]), *body)]
-            rooms, credit = least_of({}, *ways), None
-        elif word == "call":
-            rooms, credit = dict.fromkeys(ALL, 0), None
-    return rooms
-
-
-def covers(nodes, id, stub):
+def covers(nodes, id, stub, known=None):
+    known = known or Rooms(nodes)
     try:
         spots = spots_of(nodes, id, stub)
-        run(nodes, id, stub.code, {0: 0})
+        known.run(id, stub.code, only(0, 0))
         for spot, code in zip(spots, stub.subs):
-            run(nodes, spot, code, dict.fromkeys(ALL, 0))
+            known.run(spot, code, all_zero(ALL))
         return True
     except (Refused, NoFlat):
         return False
+
+
+def flat_or_none(nodes, id, stub):
+    try:
+        return flat(nodes, id, stub)
+    except NoFlat:
+        return None
 
 
 def verdict(nodes, id, kept, code):
     """`yes`, `meaning` or `cover`."""
     if (kept.code, kept.subs) == (code.code, code.subs):
         return "yes"
-    try:
-        if flat(nodes, id, code) != flat(nodes, id, kept):
-            return "meaning"
-    except NoFlat:
+    found = flat_or_none(nodes, id, code)
+    if found is None or found != flat_or_none(nodes, id, kept):
         return "meaning"
     return "yes" if covers(nodes, id, code) else "cover"
 
@@ -589,13 +707,6 @@ UNCOVERED = [
 ]
 # Codes over a union that are alike but for the type of the default's body: their octets differ for a tag that has no case.
 ALIKE = (["switch .", "default", "row_copy .", "end"], ["switch .", "default", "each .", "chunk 4", "at 0 num . 4 le", "end", "end", "end"])
-
-
-def flat_or_none(nodes, id, stub):
-    try:
-        return flat(nodes, id, stub)
-    except NoFlat:
-        return None
 
 
 def worked_wrong():

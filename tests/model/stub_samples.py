@@ -117,6 +117,15 @@ def sending(encoding, nodes, id, path=()):
     return []
 
 
+def around(octets, size_at, *puts):
+    """A chunk of these octets, of which the puts take the place of some. The size is patched later."""
+    found, at, octets = [], 0, octets[:size_at] + bytes(4) + octets[size_at + 4:]
+    for put in [*puts, (len(octets), None, 0, None)]:
+        found += [(at, "const", octets[at:put[0]])] * (put[0] > at)
+        found, at = found + [put], put[0] + put[-2]
+    return chunk(len(octets), *found[:-1])
+
+
 def framed(back, interface, operation, code):
     """Code with the head of a request before it, and the patch that states the length."""
     if back == "xdr":
@@ -125,12 +134,12 @@ def framed(back, interface, operation, code):
     if back == "mach":
         head = mach_request(0, 0, interface.base + interface.slot(operation), not operation.oneway, b"")
         ports = [(8, "head", "remote", 4, "little"), (12, "head", "local", 4, "little")][:1 + (not operation.oneway)]
-        return chunk(24, (0, "const", head), *ports) + code + [(("patch", 4, 0, "little"), None)]
+        return around(head, 4, *ports) + code + [(("patch", 4, 0, "little"), None)]
     order = ORDER_OF[ENCODINGS[back]]
     version = BACKS[back].version
     fields = request_fields(order, 0, not operation.oneway, interface.name, operation[0], version)
     head = giop_message(order, REQUEST, before_body(fields, version) if code else fields, version)
-    return chunk(len(head), (0, "const", head), (16 if version == 0 else 12, "head", "id", 4, order)) + code + [(("patch", 8, 12, order), None)]
+    return around(head, 8, (16 if version == 0 else 12, "head", "id", 4, order)) + code + [(("patch", 8, 12, order), None)]
 
 
 # ---- room

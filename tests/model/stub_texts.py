@@ -28,7 +28,9 @@ WORDS = {"n": NUMBER, "c": rf"(?:{NUMBER}|-[1-9][0-9]*)", "p": rf"(?:\.|(?:\.{NU
          "f": "(?:id|remote|local)", "a": "(?:any|zero)"}
 ORDERS = {"be": "big", "le": "little"}
 ENDS = {order: word for word, order in ORDERS.items()}
-GREATEST = 2 ** 32 - 1
+GREATEST, LONGEST_NUMBER = 2 ** 32 - 1, 40
+CASES = range(-2 ** 127, 2 ** 127)
+DEEPEST = 128  # how deep blocks are nested at most
 
 
 class NoStub(Exception):
@@ -37,12 +39,12 @@ class NoStub(Exception):
 
 def meant(form, word):
     """A word of a line."""
-    if not re.fullmatch(WORDS[form], word):
+    if not re.fullmatch(WORDS[form], word) or form in "nc" and len(word) > LONGEST_NUMBER:
         raise NoStub(f"the word {word!r}")
     if form == "p":
-        return tuple(map(int, word[1:].split("."))) if word != "." else ()
+        return tuple(meant("n", field) for field in word[1:].split(".")) if word != "." else ()
     value = {"n": int, "c": int, "o": ORDERS.get, "x": bytes.fromhex}.get(form, str)(word)
-    if form == "n" and value > GREATEST:
+    if form == "n" and value > GREATEST or form == "c" and value not in CASES:
         raise NoStub(f"the number {word}")
     return value
 
@@ -57,10 +59,8 @@ def words_of(forms, words):
 class Reading:
     """The lines of a text from a place on."""
 
-    def __init__(self, text):
-        if text and not text.endswith("\n"):
-            raise NoStub("a last line without an end")
-        self.lines, self.place = text.split("\n")[:-1], 0
+    def __init__(self, lines, place=0):
+        self.lines, self.place, self.levels = lines, place, 0
 
     def peek(self):
         """The first word of the next line."""
@@ -110,19 +110,22 @@ class Reading:
         return found
 
     def body(self, kind, first):
-        if first in OF_PARTS:
-            return self.parts(kind)
-        if first == "switch":
-            return self.cases(kind)
-        if first not in OF_CODE:
+        if first not in (*OF_PARTS, *OF_CODE, "switch"):
             return None
-        code = self.code(kind)
-        self.must("end")
-        return code
+        self.levels += 1
+        if self.levels > DEEPEST:
+            raise NoStub("blocks that are nested too deep")
+        if first in OF_CODE:
+            found = self.code(kind)
+            self.must("end")
+        else:
+            found = self.cases(kind) if first == "switch" else self.parts(kind)
+        self.levels -= 1
+        return found
 
     def stub(self):
         kind = self.peek()
-        if kind not in FORMS:
+        if kind not in FORMS or " " not in self.lines[self.place]:
             raise NoStub(f"{kind!r} where a stub begins")
         name = " ".join(self.line()[1:])
         code, subs = self.code(kind), []
@@ -136,7 +139,9 @@ class Reading:
 
 def stubs_of(text):
     """The stubs of a text."""
-    reading, stubs = Reading(text), []
+    if text and not text.endswith("\n"):
+        raise NoStub("a last line without an end")
+    reading, stubs = Reading(text.split("\n")[:-1]), []
     try:
         while reading.place < len(reading.lines):
             stubs.append(reading.stub())

@@ -20,7 +20,7 @@ dearest   the dearest lines in memory and in time, by bench/figures.json
 tried     the runs that fail on purpose, by tests/lines and bench/figures.json
 tools     PATH PATH..: programs of the repository, each with its words and what it does, by the first lines of its own text
 worked    the codes that tests/model runs, with what they send and cost
-vectors   how many vectors there are, by category and back end, and what they ask
+vectors   how many vectors there are, by category and back end
 lowered   ENCODING ENCODING..: the code of types over encodings, as tests/model makes it
 stages    BACK FILE OPERATION: the code of a request after each pass, as tests/model makes it
 """
@@ -53,7 +53,7 @@ def from_top(command, folder):
     """A command of a folder as it is run at the top."""
     def word(found):
         path = os.path.normpath(f"{folder}/{found[0]}")
-        return path if os.path.isfile(f"{TOP}/{path}") else "./flick" if found[0] == "flick" else found[0]
+        return path if os.path.isfile(f"{TOP}/{path}") else f"./{found[0]}" if found[0] in ("flick", "explain") else found[0]
     return re.sub(r"[^\s'|<>;]+", word, command)
 
 
@@ -66,7 +66,7 @@ def session(arguments):
         if not found:
             raise SystemExit(f"{folder}/transcript has no command with: {words}")
         first, _, output = found[0].partition("\n")
-        shown += [from_top(first, folder), *output.rstrip("\n").split("\n")]
+        shown += [from_top(first, folder), *output.removesuffix("\n").split("\n")]
     return ["```", *shown, "```"]
 
 
@@ -283,7 +283,7 @@ def worked(_):
             *(f"| `{in_line(code)}` | `{json.dumps(value, separators=(',', ':'))}` | `{in_words(octets)}` | {', '.join(map(str, cost))} |" for code, value, octets, cost in rows)]
 
 
-CATEGORIES = {"values": "values, both ways", "limits": "limits of each form, and one beyond", "heads": "heads, refused", "bodies": "bodies, refused",
+CATEGORIES = {"values": "values, both ways", "limits": "limits, and one beyond", "heads": "heads, refused", "bodies": "bodies, refused",
               "trailing": "trailing octets", "replies": "replies", "choices": "choices of senders", "open": "open"}
 
 
@@ -294,10 +294,9 @@ def vectors(_):
     other = {os.path.basename(path).split(".")[0] for path in glob.glob(f"{TOP}/vectors/*/*.jsonl")} - {*CATEGORIES}
     if other:
         raise SystemExit(f"tests/pages/blocks.py has no words for the category {min(other)}")
-    asked = {key: sum(1 if "refused" in row or row.get("way") == "read" else 2 for row in found) for key, found in rows.items()}
-    table = [(said, *(len(rows[name, back]) for back in backs), sum(asked[name, back] for back in backs)) for name, said in CATEGORIES.items()]
+    table = [(said, *(len(rows[name, back]) for back in backs)) for name, said in CATEGORIES.items()]
     table.append(("all", *(sum(column) for column in list(zip(*table))[1:])))
-    return [f"| Category | {' | '.join(backs)} | Answers |", "|---" * (len(backs) + 2) + "|",
+    return [f"| Category | {' | '.join(backs)} |", "|---" * (len(backs) + 1) + "|",
             *(f"| {said} | {' | '.join(f'{n:,}' for n in numbers)} |" for said, *numbers in table)]
 
 

@@ -22,7 +22,8 @@ SAID = {"! long": "The line is above its limit and was not read, or its message 
         "? syntax": "The definition that begins on line LINE has no tree.",
         "? replies": "Line LINE, from 1 over all, is no reply record with a message, or its operation has one already. A head number and `refused` are not taken.",
         "! pair": "BACK2 has no operation of the interface and name that the message calls.",
-        "! frame Cut": "The stream ends within a message."}
+        "! frame Cut": "The stream ends within a message.",
+        "! text": "No text of stub code begins on line LINE, from 1; it is the last line."}
 BESIDES = {
     "? lex Directive": "`./bring-in` runs `cpp` over the file.",
     "? name Unknown": "In a CORBA file a name of another module wants its scope, as in `M::name`. `./bring-in` mends much of this.",
@@ -33,18 +34,22 @@ BESIDES = {
     "? bind Wide": "README has the limits.",
     "? bind Deep": "A request adds a level around parameters; an answer and a reply add theirs around a result.",
     "! long": "Under `unreply` the operation's name and the space count.",
-    "! op": "Under `reply` and `unreply` it needs a reply.",
+    "! op": "Under `reply` and `unreply` it needs a reply; under `check` the line has the name.",
     "! request": "A line of `unreply` has a space.",
     "! head Type": "Under `unreply`: no reply to this operation.",
+    "! meaning": "A right stub may get it.",
+    "! cover": "Ensure more, or in each turn of a loop.",
     "! head Item": "So a GIOP reply of status 3, LOCATION_FORWARD, is refused.",
 }
 FILE = (("? file", "saying", "NoFile", ""), ("? size", "saying", "TooLarge", ""))
 REPLIES = (("? replies file", "saying", "NoReplies", ""), ("? replies size", "saying", "LargeReplies", ""), ("? replies", "saying", "WrongReply", "LINE"))
+STUBS = (("? stubs file", "saying", "NoStubs", ""), ("? stubs size", "saying", "LargeStubs", ""), ("! text", "", "", "LINE"),
+         ("! meaning", "verdict", "Meaning", "OP"), ("! cover", "verdict", "Cover", "OP"))
 RECORDS = (("! long", "", "", ""), ("! json", "", "", ""), ("! request", "record", "Request", ""), ("! op", "record", "Op", ""),
            ("! head", "record", "Head", ""), ("! value", "record", "Shape", ""))
 # The enums of the program, each by its crate and a variant that it has.
 ENUMS = {"lex": ("idl_lex", "OpenComment"), "name": ("aoi", "CaseClash"), "bind": ("pres", "Heavy"), "head": ("wire_def", "Magic"), "body": ("wire_def", "OverBound"),
-         "saying": ("flick_top", "WrongReply"), "record": ("json_shape", "Op"), "message": ("flick_engine", "NoInterface"), "frame": ("wire_frames", "TooLong")}
+         "saying": ("flick_top", "WrongReply"), "verdict": ("stub_check", "Cover"), "record": ("json_shape", "Op"), "message": ("flick_engine", "NoInterface"), "frame": ("wire_frames", "TooLong")}
 
 
 WITH_TEXT = ("? replies", "! json", "! request", "! value")  # the lines of which an example has what ./explain says of it
@@ -210,6 +215,9 @@ def page():
     group(out, page, "FILE is refused", entries)
     group(out, page, "REPLIES is refused (`serve`)", [
         (answer, place, SAID.get(answer) or saying[variant], []) for answer, _, variant, place in REPLIES])
+    group(out, page, "STUBFILE or a stub in it is refused (`check`)", [
+        (answer, place, SAID.get(answer) or variants(enum)[variant], []) for answer, enum, variant, place in STUBS],
+        ["`docs/STUBS.md` (\"Stubs of other makers\") says what gets a yes."])
     group(out, page, "A record is refused (`marshal`, `count`, `reply`)", [
         (answer, place, SAID.get(answer) or record[variant], refusals(*OF_RECORDS[answer])) for answer, _, variant, place in RECORDS])
     entries = [("! hex", "", SAID["! hex"], refusals("HEX"))]

@@ -4,7 +4,7 @@
 pub mod Parts
 -- * The answers to a file of stubs are determined, by induction on its parts, and are something, by induction on its length
 pub mod Deciding
--- A code that gets a yes sends the messages of requests
+-- * A code that gets a yes sends the messages of requests
 pub mod Sending
 -- * One part more is answered
 pub mod Going

@@ -25,12 +25,15 @@ pub struct Part<'a> {
     pub closers: Octets,
 }
 
+/// The end of what is whole.
+const NOTHING: &[u8] = b"";
+
 /// Ends of declarations that complete a part.
 pub type Ends = Listed<&'static [u8]>;
 
 impl Part<'_> {
     /// Whether an end completes it.
-    fn ends_by(&self, alloc: Global, end: &[u8]) -> Result<bool, NoMemory> {
+    pub fn ends_by(&self, alloc: Global, end: &[u8]) -> Result<bool, NoMemory> {
         let mut text = Octets::from_slice(alloc, self.frame.as_slice())?;
         self.put(&mut text, self.own, end)?;
         if !has_tree(alloc, self.front, text.as_slice())? {
@@ -62,21 +65,26 @@ impl Part<'_> {
 
     /// Whether some end completes it.
     pub fn goes_on(&self, alloc: Global) -> Result<bool, NoMemory> {
+        Ok(self.first_end(alloc)?.is_some())
+    }
+
+    /// The first end that completes it.
+    pub fn first_end(&self, alloc: Global) -> Result<Option<&'static [u8]>, NoMemory> {
         if self.ends_by(alloc, &[])? {
-            return Ok(true);
+            return Ok(Some(NOTHING));
         }
         let models = models_of(self.front);
         let mut rest = models;
         for _ in models {
             if rest.is_empty() {
-                return Ok(false);
+                return Ok(None);
             }
             if self.ends_by(alloc, first_line(rest))? {
-                return Ok(true);
+                return Ok(Some(first_line(rest)));
             }
             rest = past_word(rest);
         }
-        Ok(false)
+        Ok(None)
     }
 
     /// The ends that complete it, each of another first word.

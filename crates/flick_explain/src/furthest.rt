@@ -19,7 +19,9 @@ pub struct Question<'a> {
     pub file: &'a File<'a>,
     /// Its tokens.
     pub placed: &'a Placed,
-    /// The declaration.
+    /// How it begins, where the statement is a later part of it.
+    pub head: Option<Statement>,
+    /// The declaration, or the part of it that is looked at.
     pub statement: Statement,
     /// Whether names are to be resolved.
     pub names: bool,
@@ -27,7 +29,7 @@ pub struct Question<'a> {
 
 impl Question<'_> {
     /// The declaration before a token.
-    fn part(&self, alloc: Global, end: usize) -> Result<Part<'_>, NoMemory> {
+    pub fn part(&self, alloc: Global, end: usize) -> Result<Part<'_>, NoMemory> {
         let first = self.statement.first;
         let text = self.file.text;
         let start = self.placed.start(text, first);
@@ -51,9 +53,28 @@ impl Question<'_> {
         })
     }
 
-    /// What opens the containers around the declaration.
+    /// What comes before the statement: what opens the containers around the declaration, and how it begins.
     fn frame(&self, alloc: Global) -> Result<Octets, NoMemory> {
-        let first = self.statement.first;
+        match self.head {
+            Some(head) => {
+                let mut frame = self.openers(alloc, head.first)?;
+                frame.append(self.octets(head))?;
+                frame.append(b" ")?;
+                Ok(frame)
+            }
+            None => self.openers(alloc, self.statement.first),
+        }
+    }
+
+    /// The octets of tokens.
+    fn octets(&self, tokens: Statement) -> &[u8] {
+        let text = self.file.text;
+        let start = self.placed.start(text, tokens.first);
+        cut(text, start, self.placed.end_before(tokens.end))
+    }
+
+    /// What opens the containers around a declaration that begins at a token.
+    fn openers(&self, alloc: Global, first: usize) -> Result<Octets, NoMemory> {
         let front = self.file.front;
         let walk = Walk::past(alloc, front, self.placed, first)?;
         let mut frame = Octets::new(alloc);
@@ -75,8 +96,13 @@ impl Question<'_> {
     }
 
     /// Whether the declaration can go on after the tokens before one of them.
-    fn goes_on(&self, alloc: Global, end: usize) -> Result<bool, NoMemory> {
+    pub fn goes_on(&self, alloc: Global, end: usize) -> Result<bool, NoMemory> {
         self.part(alloc, end)?.goes_on(alloc)
+    }
+
+    /// The first end that is found after the tokens before one of them.
+    pub fn first_end(&self, alloc: Global, end: usize) -> Result<Option<&'static [u8]>, NoMemory> {
+        self.part(alloc, end)?.first_end(alloc)
     }
 
     /// The ends that are found after the tokens before one of them.

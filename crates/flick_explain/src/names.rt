@@ -35,6 +35,7 @@ pub fn name_reported(
     let question = Question {
         file,
         placed: &placed,
+        head: None,
         statement,
         names: true,
     };

@@ -27,6 +27,13 @@ pub struct Statement {
     pub end: usize,
 }
 
+impl Statement {
+    /// Whether a token is one of them, but the first.
+    pub fn has_inside(&self, i: usize) -> bool {
+        self.first < i && i < self.end
+    }
+}
+
 /// A walk over tokens: which braces are open, and whether a declaration may begin.
 #[derive(Drop)]
 pub struct Walk {

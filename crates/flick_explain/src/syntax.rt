@@ -28,13 +28,14 @@ pub fn syntax_reported(
     let question = Question {
         file,
         placed: &placed,
+        head: None,
         statement: Statement {
             first,
             end: placed.len(),
         },
         names: false,
     };
-    Ok(Some(reported(alloc, &question)?))
+    Ok(Some(reported(alloc, &question.narrowed(alloc)?, first)?))
 }
 
 /// The first token of the definition without a tree that begins on a line.
@@ -67,8 +68,8 @@ fn may_begin(placed: &Placed, i: usize) -> bool {
     }
 }
 
-/// What is said of a definition without a tree.
-fn reported(alloc: Global, question: &Question<'_>) -> Result<String, NoMemory> {
+/// What is said of a definition without a tree, which begins at a token.
+fn reported(alloc: Global, question: &Question<'_>, first: usize) -> Result<String, NoMemory> {
     let text = question.file.text;
     let placed = question.placed;
     let at = question.furthest(alloc)?;
@@ -85,7 +86,7 @@ fn reported(alloc: Global, question: &Question<'_>) -> Result<String, NoMemory> 
         placed.start(text, at),
         message.as_str(),
     )?;
-    let begins = place_of(text, placed.start(text, question.statement.first));
+    let begins = place_of(text, placed.start(text, first));
     let cause = format!(in alloc;
         "  cause: the definition that begins on line {} has no tree; up to here it could have one.\n",
         begins.line

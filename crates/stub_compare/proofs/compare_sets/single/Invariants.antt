@@ -1,0 +1,8 @@
+use Rattle.std.proofs.Common.{◌≡◌}
+use Rattle.stub_flat.specs.Residues.{single_first}
+use Rattle.stub_compare.specs.CompareSets.{set_of}
+use Rattle.stub_compare.proofs.compare_sets.single.Given as goal
+
+-- the last of the residues so far
+abbrev pub invariant-loop-r : goal.invariant-loop-r
+invariant-loop-r l = l.last ≡ single_first l.r (set_of l.set)

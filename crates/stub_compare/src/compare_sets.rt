@@ -1,0 +1,249 @@
+//! Sets of residues of a position by 8.
+
+ghost use Rattle.std.specs.Prelude.{◌≡◌, true, ◌+◌, ◌-◌, ◌%◌, ◌<◌, ◌≤◌, ◌&&◌, ◌||◌, not, nat_eq, if◌then◌else◌};
+ghost use Rattle.wire_def.specs.Scalars.{gap};
+ghost use Rattle.cast_stub.specs.Steps.{is_width};
+ghost use Rattle.stub_flat.specs.Residues.{aligned, comes, every, is_within, moved, none, only, single_first, size_first, sum};
+ghost use Rattle.stub_compare.specs.CompareSets.{each_of, set_of};
+
+/// Which of the residues 0 to 7 are in a set.
+pub(crate) type Set = [bool; 8];
+
+fn both(a: bool, b: bool) -> bool
+    ensures { result ≡ (a && b) }
+{
+    a && b
+}
+
+fn either(a: bool, b: bool) -> bool
+    ensures { result ≡ (a || b) }
+{
+    a || b
+}
+
+/// Whether a residue is in a set.
+pub(crate) fn has(set: &Set, r: usize) -> bool
+    requires { r < 8 }
+    ensures { result ≡ set_of set.now r }
+{
+    set[r]
+}
+
+fn is_at(r: usize, k: usize) -> bool
+    ensures { result ≡ nat_eq r k }
+{
+    r == k
+}
+
+/// One residue; no residue where it is 8.
+pub(crate) fn only(k: usize) -> Set
+    ensures { result ≡ each_of (only k) }
+{
+    [
+        is_at(0, k),
+        is_at(1, k),
+        is_at(2, k),
+        is_at(3, k),
+        is_at(4, k),
+        is_at(5, k),
+        is_at(6, k),
+        is_at(7, k),
+    ]
+}
+
+/// Every residue.
+pub(crate) fn every() -> Set
+    ensures { result ≡ each_of every }
+{
+    [true; 8]
+}
+
+/// No residue.
+pub(crate) fn none() -> Set
+    ensures { result ≡ each_of none }
+{
+    [false; 8]
+}
+
+fn sum_at(a: &Set, b: &Set, r: usize) -> bool
+    requires { r < 8 }
+    ensures { result ≡ (set_of a.now r || set_of b.now r) }
+{
+    either(has(a, r), has(b, r))
+}
+
+/// Those of one or the other.
+pub(crate) fn sum(a: &Set, b: &Set) -> Set
+    ensures { result ≡ each_of (sum (set_of a.now) (set_of b.now)) }
+{
+    [
+        sum_at(a, b, 0),
+        sum_at(a, b, 1),
+        sum_at(a, b, 2),
+        sum_at(a, b, 3),
+        sum_at(a, b, 4),
+        sum_at(a, b, 5),
+        sum_at(a, b, 6),
+        sum_at(a, b, 7),
+    ]
+}
+
+/// The same residues.
+pub(crate) fn copied(set: &Set) -> Set
+    ensures { result ≡ each_of (set_of set.now) }
+{
+    [
+        has(set, 0),
+        has(set, 1),
+        has(set, 2),
+        has(set, 3),
+        has(set, 4),
+        has(set, 5),
+        has(set, 6),
+        has(set, 7),
+    ]
+}
+
+/// The residue from which so many octets lead to another.
+fn before(n: u32, r: usize) -> usize
+    requires { r < 8 }
+    ensures is { result ≡ (r + 8 - n % 8) % 8 }
+    ensures below { result < 8 }
+{
+    (r + 8 - (n % 8) as usize) % 8
+}
+
+fn moved_at(n: u32, set: &Set, r: usize) -> bool
+    requires { r < 8 }
+    ensures { result ≡ set_of set.now ((r + 8 - n % 8) % 8) }
+{
+    has(set, before(n, r))
+}
+
+/// Those to which octets lead.
+pub(crate) fn moved(n: u32, set: &Set) -> Set
+    ensures { result ≡ each_of (moved n (set_of set.now)) }
+{
+    [
+        moved_at(n, set, 0),
+        moved_at(n, set, 1),
+        moved_at(n, set, 2),
+        moved_at(n, set, 3),
+        moved_at(n, set, 4),
+        moved_at(n, set, 5),
+        moved_at(n, set, 6),
+        moved_at(n, set, 7),
+    ]
+}
+
+/// How many octets lead to a multiple.
+pub(crate) fn gap(r: usize, a: u32) -> usize
+    requires width { is_width a ≡ true }
+    ensures is { result ≡ gap r a }
+    ensures below { result < 8 }
+{
+    let a = a as usize;
+    (a - r % a) % a
+}
+
+/// Whether an align leads from one residue to another.
+fn leads(k: usize, a: u32, r: usize) -> bool
+    requires width { is_width a ≡ true }
+    requires below { k < 8 }
+    ensures { result ≡ nat_eq ((k + gap k a) % 8) r }
+{
+    (k + gap(k, a)) % 8 == r
+}
+
+fn comes_from(k: usize, a: u32, set: &Set, r: usize) -> bool
+    requires width { is_width a ≡ true }
+    requires below { k < 8 }
+    ensures { result ≡ (set_of set.now k && nat_eq ((k + gap k a) % 8) r) }
+{
+    both(has(set, k), leads(k, a, r))
+}
+
+/// Whether an align leads to a residue.
+fn aligned_at(a: u32, set: &Set, r: usize) -> bool
+    requires { is_width a ≡ true }
+    ensures { result ≡ comes 8 a (set_of set.now) r }
+{
+    let mut found = false;
+    for k in 0..8 {
+        found = either(comes_from(k, a, set, r), found);
+    }
+    found
+}
+
+/// Those to which an align leads.
+pub(crate) fn aligned(a: u32, set: &Set) -> Set
+    requires { is_width a ≡ true }
+    ensures { result ≡ each_of (aligned a (set_of set.now)) }
+{
+    [
+        aligned_at(a, set, 0),
+        aligned_at(a, set, 1),
+        aligned_at(a, set, 2),
+        aligned_at(a, set, 3),
+        aligned_at(a, set, 4),
+        aligned_at(a, set, 5),
+        aligned_at(a, set, 6),
+        aligned_at(a, set, 7),
+    ]
+}
+
+fn is_within_at(a: &Set, b: &Set, r: usize) -> bool
+    requires { r < 8 }
+    ensures { result ≡ (not (set_of a.now r) || set_of b.now r) }
+{
+    either(!has(a, r), has(b, r))
+}
+
+/// Whether each residue of one is in the other.
+pub(crate) fn is_within(a: &Set, b: &Set) -> bool
+    ensures { result ≡ is_within (set_of a.now) (set_of b.now) }
+{
+    let mut all = true;
+    for r in 0..8 {
+        all = both(is_within_at(a, b, r), all);
+    }
+    all
+}
+
+fn counted(set: &Set, r: usize) -> usize
+    requires { r < 8 }
+    ensures is { result ≡ (if set_of set.now r then 1 else 0) }
+    ensures most { result ≤ 1 }
+{
+    if has(set, r) { 1 } else { 0 }
+}
+
+/// How many residues there are.
+pub(crate) fn size(set: &Set) -> usize
+    ensures is { result ≡ size_first 8 (set_of set.now) }
+    ensures most { result ≤ 8 }
+{
+    let mut n = 0;
+    for r in 0..8 {
+        n = counted(set, r) + n;
+    }
+    n
+}
+
+fn later(set: &Set, r: usize, last: usize) -> usize
+    requires { r < 8 }
+    ensures { result ≡ (if set_of set.now r then r else last) }
+{
+    if has(set, r) { r } else { last }
+}
+
+/// The only residue, where there is one.
+pub(crate) fn single(set: &Set) -> usize
+    ensures { result ≡ single_first 8 (set_of set.now) }
+{
+    let mut last = 0;
+    for r in 0..8 {
+        last = later(set, r, last);
+    }
+    last
+}
