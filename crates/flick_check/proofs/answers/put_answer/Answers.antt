@@ -1,4 +1,4 @@
-use Rattle.std.proofs.Common.{◌≡◌, List, ℕ, Some, OnOk, sym, ap, ◌∙◌, subst}
+use Rattle.std.proofs.Common.{sym, ◌∙◌}
 use Rattle.flick_check.specs.Checked.{op_of}
 use Rattle.flick_check.proofs.Going.{answer_put}
 use Rattle.flick_check.proofs.answers.put_answer.Goals as goal
