@@ -1,5 +1,5 @@
 -- One part more is answered.
-use Rattle.std.proofs.Common.{◌≡◌, ℕ, ◌+◌, ◌-◌, ◌<◌, ◌≤◌, Bool, true, List, [], ◌∷◌, ◌++◌, take, drop, length, map, Option, Some, None, Result, OnOk, refl, sym, ap, ◌∙◌, subst, append_assoc, append-nil, length-drop, arith, codes}
+use Rattle.std.proofs.Common.{◌≡◌, ℕ, ◌+◌, ◌-◌, ◌<◌, ◌≤◌, true, List, [], ◌∷◌, ◌++◌, take, drop, length, map, Option, Some, None, Result, OnOk, refl, sym, ap, ◌∙◌, subst, append_assoc, append-nil, length-drop, arith, codes}
 use Rattle.std.proofs.lemmas.List.{length-take-le}
 use Rattle.std.specs.Prelude.{IfSome}
 use Rattle.std.proofs.lemmas.Result.{on_ok_weaker}
@@ -9,8 +9,8 @@ use Rattle.stub_read.specs.Reading.{begins}
 use Rattle.stub_read.specs.Stubs.{Begins}
 use Rattle.stub_check.specs.declared.verdicts.Verdict.{Verdict}
 use Rattle.stub_codes.specs.Stubs.{Coded}
-use Rattle.flick_check.specs.Files.{sends, receives, passed, HasNoPart, used_of, feeds}
-use Rattle.flick_check.specs.Checked.{op_of, IsVerdictOf, verdict_words, answer_line, IsAnswer, last_line, AreAnswered, IsCheckedFrom, IsChecked, IsTaken, IsTakenOrNot, IsAnswerPut, Goes}
+use Rattle.flick_check.specs.Files.{sends, receives, passed, HasNoPart, feeds}
+use Rattle.flick_check.specs.Checked.{op_of, IsVerdictOf, verdict_words, answer_line, IsAnswer, last_line, AreAnswered, IsChecked, IsTaken, IsTakenOrNot, IsAnswerPut, Goes}
 
 pub goes_on : (e : Coded) (text rest old new : List ℕ) (line used : ℕ) → Goes e text line rest old → IsTaken e rest used old new
     → Goes e text (line + feeds (take used rest)) (drop used rest) new
