@@ -34,7 +34,7 @@ BESIDES = {
     "? bind Wide": "README has the limits.",
     "? bind Deep": "A request adds a level around parameters; an answer and a reply add theirs around a result.",
     "! long": "Under `unreply` the operation's name and the space count.",
-    "! op": "Under `reply` and `unreply` it needs a reply; under `check` the line has the name.",
+    "! op": "Under `reply` and `unreply` it needs a reply.",
     "! request": "A line of `unreply` has a space.",
     "! head Type": "Under `unreply`: no reply to this operation.",
     "! meaning": "A right stub may get it.",
@@ -217,7 +217,7 @@ def page():
         (answer, place, SAID.get(answer) or saying[variant], []) for answer, _, variant, place in REPLIES])
     group(out, page, "STUBFILE or a stub in it is refused (`check`)", [
         (answer, place, SAID.get(answer) or variants(enum)[variant], [("stub_causes", name) for name in OF_STUBS.get(answer, [])]) for answer, enum, variant, place in STUBS],
-        ["`docs/STUBS.md` (\"Stubs of other makers\") says what gets a yes."])
+        ["`docs/STUBS.md`, \"Stubs of other makers\"."])
     group(out, page, "A record is refused (`marshal`, `count`, `reply`)", [
         (answer, place, SAID.get(answer) or record[variant], refusals(*OF_RECORDS[answer])) for answer, _, variant, place in RECORDS])
     entries = [("! hex", "", SAID["! hex"], refusals("HEX"))]

@@ -5,9 +5,9 @@ use crate::command::Run;
 use crate::lexing::put_cause;
 use crate::records::{dotted, unknown_reported};
 use crate::refusals::Refusal;
-use crate::stub_lack::lacking;
+use crate::stub_lack::lack_of;
 use crate::stub_parts::{Part, part_of, stub_in};
-use crate::stub_units::{differing, own_text};
+use crate::stub_units::{first_other, own_text};
 use crate::text::{number_in, shown, text_of};
 use kit_base::{Name, NoMemory};
 use mint::table::NodeId;
@@ -131,7 +131,7 @@ impl Checked<'_> {
         part: &Part<'_>,
         id: NodeId,
     ) -> Result<Option<Said>, NoMemory> {
-        match lacking(alloc, part, self.bound.mint(), id)? {
+        match lack_of(alloc, part, self.bound.mint(), id)? {
             Some(found) => Ok(Some(Said {
                 line: part.line.saturating_add(found.lines),
                 reported: found.reported,
@@ -151,7 +151,7 @@ impl Checked<'_> {
         name: &Name,
     ) -> Result<Option<Said>, NoMemory> {
         if let Some(own) = own_text(alloc, &self.run, self.text, name)? {
-            if let Some(found) = differing(alloc, part.text, own.as_slice())? {
+            if let Some(found) = first_other(alloc, part.text, own.as_slice())? {
                 return Ok(Some(Said {
                     line: part.line.saturating_add(found.lines),
                     reported: found.reported,

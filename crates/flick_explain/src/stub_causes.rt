@@ -4,15 +4,15 @@ use crate::causes::Cause;
 
 const NO_STUB: Cause = Cause {
     what: "",
-    why: "a text is exactly as flick stubs writes it, to each blank, and its blocks nest at most 128 deep.",
-    repair: "docs/STUBS.md has the lines; numbers have no sign, no zero in front and 32 bits.",
+    why: "a text is exactly as flick stubs writes it, to each blank and zero, and its blocks nest at most 128 deep.",
+    repair: "docs/STUBS.md has the lines.",
     of_names: false,
 };
 
 const OTHER_MEANING: Cause = Cause {
     what: "",
     why: "but for ensures, chunks, and what docs/STUBS.md allows, a stub does what our own code does.",
-    repair: "compare it with what flick stubs writes from this line on.",
+    repair: "compare it with what flick stubs writes.",
     of_names: false,
 };
 

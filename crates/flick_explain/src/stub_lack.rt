@@ -32,7 +32,7 @@ pub struct Lacking {
 }
 
 /// The operation of a stub at which its room ends.
-pub fn lacking(
+pub fn lack_of(
     alloc: Global,
     part: &Part<'_>,
     mint: &Mint,
@@ -52,7 +52,7 @@ pub fn lacking(
         id,
         spots: spots.as_slice(),
     };
-    roomed.lacking(alloc)
+    roomed.lack(alloc)
 }
 
 impl Roomed<'_> {
@@ -171,7 +171,7 @@ impl Roomed<'_> {
     }
 
     /// The operation at which room ends, and how much lacks.
-    fn lacking(&self, alloc: Global) -> Result<Option<Lacking>, NoMemory> {
+    fn lack(&self, alloc: Global) -> Result<Option<Lacking>, NoMemory> {
         let Some((before, place)) = self.ends(alloc)? else {
             return Ok(None);
         };

@@ -138,7 +138,7 @@ fn without_offset(line: &[u8]) -> &[u8] {
 }
 
 /// The first line of a text that differs from that of our own.
-pub fn differing(alloc: Global, text: &[u8], own: &[u8]) -> Result<Option<Differing>, NoMemory> {
+pub fn first_other(alloc: Global, text: &[u8], own: &[u8]) -> Result<Option<Differing>, NoMemory> {
     let mut theirs = Walk::of(text);
     let mut ours = Walk::of(own);
     for _ in 0..text.len() {
