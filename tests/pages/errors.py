@@ -34,11 +34,10 @@ BESIDES = {
     "? bind Wide": "README has the limits.",
     "? bind Deep": "A request adds a level around parameters; an answer and a reply add theirs around a result.",
     "! long": "Under `unreply` the operation's name and the space count.",
-    "! op": "Under `reply` and `unreply` it needs a reply; under `check` the line has the name.",
+    "! op": "Under `reply` and `unreply` it needs a reply.",
     "! request": "A line of `unreply` has a space.",
     "! head Type": "Under `unreply`: no reply to this operation.",
     "! meaning": "A right stub may get it.",
-    "! cover": "Ensure more, or in each turn of a loop.",
     "! head Item": "So a GIOP reply of status 3, LOCATION_FORWARD, is refused.",
 }
 FILE = (("? file", "saying", "NoFile", ""), ("? size", "saying", "TooLarge", ""))
@@ -77,7 +76,7 @@ def variants(enum):
 def causes():
     """The causes of flick_explain by their file and constant."""
     found = {}
-    for path in ("causes", "refusals"):
+    for path in ("causes", "refusals", "stub_causes"):
         text = sources.text_of(f"crates/flick_explain/src/{path}.rt")
         for name, body in re.findall(r"const (\w+): Cause = Cause \{(.*?)\n\};", text, re.S):
             found[path, name] = dict(re.findall(r'(what|why|repair): "(.*?)",\n', body))
@@ -87,7 +86,7 @@ def causes():
 def arms():
     """The causes of each word of a refusal, by the function that chooses, with those that its last arm leaves to another."""
     found = {}
-    for path in ("causes", "refusals"):
+    for path in ("causes", "refusals", "stub_causes"):
         text = sources.text_of(f"crates/flick_explain/src/{path}.rt")
         for function, body in re.findall(r"fn (\w+)\((.*?)\n    ?\}\n", text, re.S):
             for word, name in re.findall(r'b"(\w+)"(?: if [^=]*==[^=]*)? => (?:Some\()?([A-Z_]+)', body):
@@ -132,7 +131,7 @@ def explained():
     for table in ("lines", "commands"):
         for _, listed in rows(f"explain/{table}.json"):
             for row in listed:
-                text = re.sub(r"^(FILE|LINES|REPLIES)(:\d+)*: ", "", row["said"][0]).rstrip(":")
+                text = re.sub(r"^(FILE|LINES|REPLIES|STUBS)(:\d+)*: ", "", row["said"][0]).rstrip(":")
                 if shown := short(row.get("replies") if row["answer"].startswith("? replies") else row.get("line"), LONGEST_LINE):
                     found.setdefault(answer_words(row["answer"]), (shown, text, row.get("over", ""), row.get("command", "")))
     return found
@@ -197,6 +196,7 @@ def group(out, page, heading, entries, first=()):
 
 OF_RECORDS = {"! long": ["LONG"], "! json": ["JSON"], "! request": ["REQUEST"], "! op": ["OP"],
               "! head": ["NO_REPLY"], "! value": ["VALUE"]}
+OF_STUBS = {"! text": ["NO_STUB"], "! meaning": ["OTHER_MEANING"], "! cover": ["NO_ROOM"]}
 HEADS = {"Short": ["HEAD_SHORT"], "Type_": ["HEAD_TYPE"]}
 
 
@@ -216,8 +216,8 @@ def page():
     group(out, page, "REPLIES is refused (`serve`)", [
         (answer, place, SAID.get(answer) or saying[variant], []) for answer, _, variant, place in REPLIES])
     group(out, page, "STUBFILE or a stub in it is refused (`check`)", [
-        (answer, place, SAID.get(answer) or variants(enum)[variant], []) for answer, enum, variant, place in STUBS],
-        ["`docs/STUBS.md` (\"Stubs of other makers\") says what gets a yes."])
+        (answer, place, SAID.get(answer) or variants(enum)[variant], [("stub_causes", name) for name in OF_STUBS.get(answer, [])]) for answer, enum, variant, place in STUBS],
+        ["`docs/STUBS.md`, \"Stubs of other makers\"."])
     group(out, page, "A record is refused (`marshal`, `count`, `reply`)", [
         (answer, place, SAID.get(answer) or record[variant], refusals(*OF_RECORDS[answer])) for answer, _, variant, place in RECORDS])
     entries = [("! hex", "", SAID["! hex"], refusals("HEX"))]

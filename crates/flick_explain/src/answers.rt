@@ -15,6 +15,7 @@ use std::alloc::Global;
 /// The page for words that name no run.
 const USAGE: &[u8] = b"usage: flick_explain COMMAND FRONT BACK FILE [--lines INPUT]\n\
 \x20      flick_explain serve FRONT BACK FILE REPLIES [--lines INPUT]\n\
+\x20      flick_explain check FRONT BACK FILE STUBFILE\n\
 \x20      flick_explain show FRONT FILE\n\
 \x20      flick_explain make FRONT BACK FILE NUMBER N\n\
 \x20      flick_explain --octets FRONT BACK FILE [--reply OPERATION]\n\
@@ -70,6 +71,7 @@ fn over<S: Source, K: Sink>(
         run: *run,
         text: shelved.file(),
         replies: shelved.replies(),
+        stubs: shelved.stubs(),
         bound: bound.as_ref(),
     };
     say_all(alloc, &known, &mut inputs, input, output)

@@ -1,6 +1,6 @@
 //! What the words name: those of the run that is explained, and the file of its input.
 
-use flick_engine::wire_of;
+use flick_engine::{Wire, wire_of};
 use idl_lex::Front;
 use kit_base::{Octets, Words};
 use wire_def::Back;
@@ -30,6 +30,8 @@ pub enum Verb {
     Show,
     /// Messages of values that a number makes were tried.
     Make,
+    /// Each text of stub code was judged.
+    Check,
 }
 
 /// The run that is explained.
@@ -41,10 +43,14 @@ pub struct Run<'a> {
     pub front: Front,
     /// The format of the messages, of two the first; `xdr` for `show`, which makes none.
     pub back: Back,
+    /// The version of the messages, by its minor number.
+    pub minor: u8,
     /// The path of the interface file.
     pub path: &'a [u8],
     /// The path of the file of replies, where the run has one.
     pub replies: Option<&'a [u8]>,
+    /// The path of the file of stubs, where the run has one.
+    pub stubs: Option<&'a [u8]>,
     /// The path of what the run read, where it is given.
     pub lines: Option<&'a [u8]>,
 }
@@ -79,7 +85,7 @@ fn is_option(word: &Octets) -> bool {
 /// The same run, with the file that it read, where it reads lines.
 fn read_from<'a>(run: Run<'a>, lines: &'a Octets) -> Option<Run<'a>> {
     match run.verb {
-        Verb::Unpipe | Verb::Stubs | Verb::Show | Verb::Make => None,
+        Verb::Unpipe | Verb::Stubs | Verb::Show | Verb::Make | Verb::Check => None,
         _ => Some(Run {
             lines: Some(lines.as_slice()),
             ..run
@@ -97,7 +103,7 @@ fn over_file<'a>(
     run_in(verb_of(verb.as_slice())?, front, back, path)
 }
 
-/// The run of `serve FRONT BACK FILE REPLIES` or of `bridge FRONT BACK1 BACK2 FILE`.
+/// The run of `serve FRONT BACK FILE REPLIES`, of `check FRONT BACK FILE STUBFILE` or of `bridge FRONT BACK1 BACK2 FILE`.
 fn over_two<'a>(
     verb: &Octets,
     front: &Octets,
@@ -105,10 +111,25 @@ fn over_two<'a>(
     fourth: &'a Octets,
     fifth: &'a Octets,
 ) -> Option<Run<'a>> {
-    match serve_of(verb, front, back, fourth, fifth) {
-        Some(run) => Some(run),
-        None => bridge_of(verb, front, back, fourth, fifth),
+    match verb.as_slice() {
+        b"serve" => serve_of(front, back, fourth, fifth),
+        b"check" => check_of(front, back, fourth, fifth),
+        _ => bridge_of(verb, front, back, fourth, fifth),
     }
+}
+
+/// The run of `check FRONT BACK FILE STUBFILE`.
+fn check_of<'a>(
+    front: &Octets,
+    back: &Octets,
+    path: &'a Octets,
+    stubs: &'a Octets,
+) -> Option<Run<'a>> {
+    let run = run_in(Verb::Check, front, back, path)?;
+    Some(Run {
+        stubs: Some(stubs.as_slice()),
+        ..run
+    })
 }
 
 /// The run of `bridge FRONT BACK1 BACK2 FILE`.
@@ -128,15 +149,11 @@ fn bridge_of<'a>(
 
 /// The run of `serve FRONT BACK FILE REPLIES`.
 fn serve_of<'a>(
-    verb: &Octets,
     front: &Octets,
     back: &Octets,
     path: &'a Octets,
     replies: &'a Octets,
 ) -> Option<Run<'a>> {
-    if verb.as_slice() != b"serve".as_slice() {
-        return None;
-    }
     let run = run_in(Verb::Serve, front, back, path)?;
     Some(Run {
         replies: Some(replies.as_slice()),
@@ -149,7 +166,7 @@ fn show_of<'a>(verb: &Octets, front: &Octets, path: &'a Octets) -> Option<Run<'a
     if verb.as_slice() != b"show".as_slice() {
         return None;
     }
-    Some(run_by(Verb::Show, front_of(front.as_slice())?, Back::Xdr, path))
+    Some(run_by(Verb::Show, front_of(front.as_slice())?, Wire::Xdr, path))
 }
 
 /// The run of `make FRONT BACK FILE NUMBER N`.
@@ -163,18 +180,20 @@ fn make_of<'a>(verb: &Octets, front: &Octets, back: &Octets, path: &'a Octets) -
 /// The run of the words of a language and a format.
 pub fn run_in<'a>(verb: Verb, front: &Octets, back: &Octets, path: &'a Octets) -> Option<Run<'a>> {
     let front = front_of(front.as_slice())?;
-    let back = wire_of(back.as_slice())?.back();
-    Some(run_by(verb, front, back, path))
+    let wire = wire_of(back.as_slice())?;
+    Some(run_by(verb, front, wire, path))
 }
 
 /// The run in a language over a format.
-fn run_by(verb: Verb, front: Front, back: Back, path: &Octets) -> Run<'_> {
+fn run_by(verb: Verb, front: Front, wire: Wire, path: &Octets) -> Run<'_> {
     Run {
         verb,
         front,
-        back,
+        back: wire.back(),
+        minor: wire.minor(),
         path: path.as_slice(),
         replies: None,
+        stubs: None,
         lines: None,
     }
 }

@@ -1,6 +1,7 @@
 //! What is known of a run, and what is said of each line that it wrote.
 
 use crate::bindings::bind_reported;
+use crate::checked::{Checked, stubs_reported};
 use crate::command::Run;
 use crate::files::File;
 use crate::given::{Given, replies_reported};
@@ -25,6 +26,8 @@ pub struct Known<'a> {
     pub text: Option<&'a [u8]>,
     /// Those of the file of replies, where it is there.
     pub replies: Option<&'a [u8]>,
+    /// Those of the file of stubs, where it is there.
+    pub stubs: Option<&'a [u8]>,
     /// The interface file bound to the back end, where it is accepted.
     pub bound: Option<&'a Bound>,
 }
@@ -70,11 +73,26 @@ impl Known<'_> {
     /// What is said of a refusal of a file.
     fn refused(&self, alloc: Global, answer: &[u8]) -> Result<String, NoMemory> {
         let refusal = Refusal::of(answer);
-        match self.run.replies {
-            Some(path) if refusal.word == b"replies".as_slice() => {
+        match (refusal.word, self.run.replies, self.run.stubs) {
+            (b"replies", Some(path), _) => {
                 self.replies_refused(alloc, path, answer, refusal.kind)
             }
+            (b"stubs", _, Some(path)) => self.stubs_refused(alloc, path, answer, refusal.kind),
             _ => self.file_reported(alloc, answer),
+        }
+    }
+
+    /// What is said of a refusal of the file of stubs.
+    fn stubs_refused(
+        &self,
+        alloc: Global,
+        path: &[u8],
+        answer: &[u8],
+        word: &[u8],
+    ) -> Result<String, NoMemory> {
+        match stubs_reported(alloc, path, word)? {
+            Some(reported) => Ok(reported),
+            None => unsaid(alloc, path, answer),
         }
     }
 
@@ -129,6 +147,9 @@ impl Known<'_> {
         line: Option<&[u8]>,
     ) -> Result<String, NoMemory> {
         let refusal = Refusal::of(answer);
+        if let Some(said) = self.stub_reported(alloc, &refusal, number)? {
+            return Ok(said);
+        }
         let mut out = self.line_begin(alloc, number)?;
         match (line, self.bound) {
             (Some(line), Some(bound)) => {
@@ -142,6 +163,31 @@ impl Known<'_> {
             None => out.push_str("  this is not an answer of flick\n")?,
         }
         Ok(out)
+    }
+
+    /// What is said of a refusal of a stub, where the files are there.
+    fn stub_reported(
+        &self,
+        alloc: Global,
+        refusal: &Refusal<'_>,
+        number: usize,
+    ) -> Result<Option<String>, NoMemory> {
+        match (self.run.stubs, self.stubs, self.text, self.bound) {
+            (Some(path), Some(stubs), Some(text), Some(bound)) => {
+                let checked = Checked {
+                    run: self.run,
+                    path,
+                    stubs,
+                    text,
+                    bound,
+                };
+                match refusal.cause(self.run.verb) {
+                    Some(cause) => checked.reported(alloc, refusal, number, &cause),
+                    None => Ok(None),
+                }
+            }
+            _ => Ok(None),
+        }
     }
 
     /// The path and number of a line.

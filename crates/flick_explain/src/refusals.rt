@@ -4,6 +4,7 @@ use crate::causes::Cause;
 use crate::command::Verb;
 use crate::completions::{first_word, past_word};
 use crate::given_causes::NO_VALUE;
+use crate::stub_causes::stub_cause;
 
 /// A refusal of a line: its words after the `!`.
 #[derive(Clone, Copy)]
@@ -42,6 +43,7 @@ impl Refusal<'_> {
             b"head" => Some(head_cause(verb, self.has_kind(), self.kind)),
             b"body" => body_cause(self.kind),
             b"frame" => frame_cause(self.kind),
+            b"text" | b"meaning" | b"cover" => Some(stub_cause(self.word)),
             _ => message_cause(self.word),
         }
     }

@@ -2,7 +2,7 @@
 
 use crate::command::Run;
 use crate::ended::Ended;
-use kit_base::limits::{LONGEST_FILE, LONGEST_REPLIES, MOST_INPUT};
+use kit_base::limits::{LONGEST_FILE, LONGEST_REPLIES, LONGEST_STUBS, MOST_INPUT};
 use kit_base::{Octets, Shelf, ShelfErr};
 use std::alloc::Global;
 
@@ -11,6 +11,7 @@ use std::alloc::Global;
 pub struct Shelved {
     file: Option<Octets>,
     replies: Option<Octets>,
+    stubs: Option<Octets>,
     lines: Option<Octets>,
 }
 
@@ -19,10 +20,12 @@ impl Shelved {
     pub fn of<F: Shelf>(alloc: Global, run: &Run<'_>, shelf: &mut F) -> Result<Shelved, Ended> {
         let file = content(alloc, run.path, LONGEST_FILE + 1, shelf)?;
         let replies = content_at(alloc, run.replies, LONGEST_REPLIES + 1, shelf)?;
+        let stubs = content_at(alloc, run.stubs, LONGEST_STUBS + 1, shelf)?;
         let lines = content_at(alloc, run.lines, MOST_INPUT as u32, shelf)?;
         Ok(Shelved {
             file,
             replies,
+            stubs,
             lines,
         })
     }
@@ -35,6 +38,11 @@ impl Shelved {
     /// The octets of the file of replies.
     pub fn replies(&self) -> Option<&[u8]> {
         octets_of(&self.replies)
+    }
+
+    /// The octets of the file of stubs.
+    pub fn stubs(&self) -> Option<&[u8]> {
+        octets_of(&self.stubs)
     }
 
     /// The octets of what the run read.
