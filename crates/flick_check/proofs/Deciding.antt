@@ -1,6 +1,5 @@
 -- The answers to a file of stubs are determined, by induction on its parts, and are something, by induction on its length.
 use Rattle.std.proofs.Common.{◌≡◌, ◌⊎◌, inl, inr, ℕ, zero, suc, ◌+◌, ◌≤◌, List, [], ◌∷◌, ◌++◌, take, drop, length, map, Option, Some, None, slice_get, refl, sym, ap, ◌∙◌, subst, arith, codes, length-drop}
-use Rattle.mint.specs.declared.node.Node.{Node}
 use Rattle.cast_stub.specs.declared.send.SendCode.{SendCode}
 use Rattle.cast_stub.specs.Block.{code_seen}
 use Rattle.stub_check.specs.declared.verdicts.Verdict.{Verdict}
@@ -13,7 +12,7 @@ use Rattle.stub_codes.specs.Stubs.{Coded}
 use Rattle.flick_check.specs.Files.{Part, sends, receives, IsPart, HasNoPart, used_of, feeds}
 use Rattle.flick_check.specs.Checked.{op_of, request_of, IsVerdictBeside, verdict_words, answer_line, IsAnswer, IsPartAnswer, last_line, AreAnswered, IsCheckedFrom}
 use Rattle.flick_check.specs.Laws.{IsCheckedOnce, IsCheckedSomehow}
-use Rattle.flick_check.proofs.Parts.{AreOne, one_stub, not_received, no_part, IsStart, start_somehow}
+use Rattle.flick_check.proofs.Parts.{one_stub, not_received, no_part, IsStart, start_somehow}
 
 -- ---- once
 

@@ -8,3 +8,5 @@ pub mod Deciding
 pub mod Sending
 -- * One part more is answered
 pub mod Going
+-- * Octets are two lists, one after the other, exactly where what is left behind the first is the second
+pub mod Stripped

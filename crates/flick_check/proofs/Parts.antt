@@ -1,5 +1,5 @@
 -- Octets begin with one part of a file of stubs, or with none.
-use Rattle.std.proofs.Common.{◌≡◌, ◌⊎◌, inl, inr, ℕ, zero, suc, ◌+◌, ◌≤◌, Bool, true, false, ◌&&◌, eqb, List, [], ◌∷◌, ◌++◌, take, drop, length, map, Option, Some, None, refl, sym, ap, ◌∙◌, subst, arith, codes, length-append}
+use Rattle.std.proofs.Common.{◌≡◌, ◌⊎◌, inl, inr, ℕ, suc, ◌≤◌, Bool, true, false, ◌&&◌, eqb, List, [], ◌∷◌, drop, length, map, Option, Some, None, refl, sym, ap, ◌∙◌, arith, codes}
 use Rattle.std.specs.List.{starts_with}
 use Rattle.std.proofs.lemmas.List.{length-take-le}
 use Rattle.std.specs.Prelude.{◌==◌, if◌then◌else◌}
@@ -7,7 +7,7 @@ use Rattle.cast_stub.specs.declared.send.SendCode.{SendCode}
 use Rattle.cast_stub.specs.Block.{Block, code_seen}
 use Rattle.stub_print.specs.SendText.{send_text}
 use Rattle.stub_read.specs.Reading.{begins}
-use Rattle.stub_read.specs.Stubs.{Begins, BeginsNone, Parts, parts_at}
+use Rattle.stub_read.specs.Stubs.{Begins, Parts, parts_at}
 use Rattle.stub_read.proofs.Whole.{stub_text, text_then, begun, one_begun, told, text_of, nothing_read, found, otherwise}
 use Rattle.flick_check.specs.Files.{Part, sends, receives, begins_stub, passed, IsPart, HasNoPart, used_of}
 

@@ -1,6 +1,6 @@
 //! The answers of `check` to a file of stubs.
 
-ghost use Rattle.std.specs.Prelude.{◌≡◌, ◌≤◌, ◌<◌, ◌++◌, ◌∷◌, [], decimal, length, IfOk, IfSome, OnOk};
+ghost use Rattle.std.specs.Prelude.{◌≡◌, ◌≤◌, ◌<◌, ◌++◌, ◌∷◌, [], decimal, drop, length, take, IfOk, IfSome, OnOk};
 ghost use Rattle.flick_check.specs.Checked.{verdict_words, answer_line, last_line, IsAnswerPut, IsChecked, IsTakenOrNot, IsVerdictOf};
 ghost use Rattle.flick_check.specs.Checked as checked;
 
@@ -27,9 +27,19 @@ pub fn check_stubs(alloc: Global, engine: &Engine, text: &[u8]) -> Result<Octets
             put_last(&mut out, line, rest)?;
             return Ok(out);
         };
-        line += feeds(&rest[..used]);
-        rest = &rest[used..];
+        let (part, tail) = parted(rest, used);
+        line += feeds(part);
+        rest = tail;
     }
+}
+
+/// So many octets, and those after them.
+fn parted(text: &[u8], used: usize) -> (&[u8], &[u8])
+    requires { used ≤ length text.now }
+    ensures before { result.0.now ≡ take used text.now }
+    ensures after { result.1.now ≡ drop used text.now }
+{
+    (&text[..used], &text[used..])
 }
 
 /// Puts the answer to the part that a text begins with, if it begins with one, and says how many octets that has.

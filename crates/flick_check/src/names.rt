@@ -22,15 +22,22 @@ fn interface_name(interfaces: &[Interface], k: u32) -> &[u8]
     }
 }
 
+/// Whether octets are a dot and a name.
+fn is_dotted(octets: &[u8], name: &[u8]) -> bool
+    ensures { result ≡ bytes_eq (codes "." ++ name.now) octets.now }
+{
+    match octets.strip_prefix(b".") {
+        Some(rest) => name == rest,
+        None => false,
+    }
+}
+
 /// Whether a name is another name, a dot, and a last name.
 fn is_joined(name: &[u8], first: &[u8], last: &[u8]) -> bool
     ensures { result ≡ bytes_eq (first.now ++ (codes "." ++ last.now)) name.now }
 {
     match name.strip_prefix(first) {
-        Some(rest) => match rest {
-            [b'.', own @ ..] => own == last,
-            _ => false,
-        },
+        Some(rest) => is_dotted(rest, last),
         None => false,
     }
 }
