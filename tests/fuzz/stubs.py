@@ -301,7 +301,7 @@ def edited_lines(rng, text):
 
 
 def edited_stub(rng, request, stub):
-    """The text of an edited stub. Most send the same octets; about a fifth are no text."""
+    """The text of an edited stub. Most send the same octets; a few are no text."""
     editing, kind = Editing(rng, request, stub), rng.random()
     for _ in range(rng.choice((0, 1, 1, 2, 3, 6))):
         rng.choice(ALIKE)(editing)
@@ -310,4 +310,4 @@ def edited_stub(rng, request, stub):
     for _ in range(rng.choice((0, 1, 1, 2)) if kind < 0.35 else 0):
         rng.choice(OTHER)(editing)
     text = text_of(editing.stub())
-    return text if kind < 0.85 else edited_lines(rng, text)
+    return text if kind < 0.94 else edited_lines(rng, text)
