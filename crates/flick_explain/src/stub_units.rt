@@ -66,7 +66,7 @@ fn engine_of(alloc: Global, bound: Bound, minor: u8) -> Result<Engine, NoMemory>
 fn text_in(alloc: Global, engine: &Engine, name: &Name) -> Result<Option<Octets>, NoMemory> {
     for (i, found) in engine.bound().ops().as_slice().iter().enumerate() {
         if dotted(alloc, engine.bound(), found)?.as_slice() == name.as_slice() {
-            return text_at(alloc, engine, name, i as u32);
+            return text_at(alloc, engine, name, i);
         }
     }
     Ok(None)
@@ -77,12 +77,14 @@ fn text_at(
     alloc: Global,
     engine: &Engine,
     name: &Name,
-    op: u32,
+    place: usize,
 ) -> Result<Option<Octets>, NoMemory> {
-    if (op as usize) < engine.bound().ops().len() {
-        return Ok(Some(print_send(alloc, name, engine.send_code(op))?));
+    match u32::try_from(place) {
+        Ok(op) if (op as usize) < engine.bound().ops().len() => {
+            Ok(Some(print_send(alloc, name, engine.send_code(op))?))
+        }
+        _ => Ok(None),
     }
-    Ok(None)
 }
 
 impl<'a> Walk<'a> {
