@@ -1,9 +1,6 @@
 -- Blank values, field by field and copy by copy, by induction on the values and on the number of copies.
-use Rattle.std.proofs.Common.{◌≡◌, IsTrue, ℕ, zero, suc, pos, List, [], ◌++◌, refl, sym, ap, ◌∙◌, replicate, ◌≤◌, length, drop, append-nil, Result, Ok, Err, IfOk, ℤ, Option, None, Some, slice_get}
+use Rattle.std.proofs.Common.{◌≡◌, ℕ, zero, suc, List, [], ◌++◌, refl, sym, ap, ◌∙◌, replicate, ◌≤◌, length, drop, append-nil, Result, Ok, Err, IfOk, ℤ, Option, None, Some, slice_get}
 use Rattle.std.proofs.Math.ListN.{drop_of_length-le}
-use Rattle.mint.specs.declared.kind.Kind.{Kind}
-use Rattle.mint.specs.declared.kind.Kind.TheVariants as kind
-use Rattle.mint.specs.Kinds.{in_range}
 use Rattle.kit_base.specs.declared.errors.NoMemory.{NoMemory}
 use Rattle.mint.specs.declared.value.Value.{Value}
 use Rattle.mint.specs.Types.{Scalar, Ty, at, arms_at, others_at}
@@ -24,19 +21,6 @@ vals_of-replicate (suc n) v = ap (val v) (vals_of-replicate n v)
 
 pub all_copies : (ws : List Val) (n : ℕ) (v : Val) → ws ≡ replicate n v → vals_of ws ≡ copies n v
 all_copies ws n v is = ap vals_of is ∙ vals_of-replicate n v
-
-zero_in : (k : Kind) → IsTrue (in_range k (pos 0))
-zero_in kind.Octet = refl
-zero_in kind.I8 = refl
-zero_in kind.U8 = refl
-zero_in kind.Char = refl
-zero_in kind.I16 = refl
-zero_in kind.U16 = refl
-zero_in kind.I32 = refl
-zero_in kind.U32 = refl
-zero_in kind.I64 = refl
-zero_in kind.U64 = refl
-zero_in kind.Bool = refl
 
 -- what was made so far is all where nothing is left
 pub all_made : (F : List ℕ → List Val) (ws : List Val) (xs ys : List ℕ) (i : ℕ) → xs ≡ ys → length xs ≤ i → F [] ≡ []

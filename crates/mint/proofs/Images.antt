@@ -21,7 +21,7 @@ AreOctets o = (i : ℕ) → get_or o i 0 < 256
 
 -- ---- one number
 
-some_octets : (k : Kind) → 0 < width k
+pub some_octets : (k : Kind) → 0 < width k
 some_octets kind.Octet = omega arith
 some_octets kind.I8 = omega arith
 some_octets kind.U8 = omega arith

@@ -1,5 +1,5 @@
 -- The images of rows, as they are and with each number's octets reversed, by induction on how many numbers there are.
-use Rattle.std.proofs.Common.{◌≡◌, ◌≢◌, ◌≤◌, ◌<◌, inl, inr, ℕ, zero, suc, ◌+◌, ◌-◌, ◌*◌, ◌/◌, ◌%◌, ℤ, min, List, [], ◌∷◌, ◌++◌, length, take, drop, reverse, sym, ap, refl, ◌∙◌, arith, add-one, append_assoc, length-append, length-take, length-drop}
+use Rattle.std.proofs.Common.{◌≡◌, ◌≢◌, ◌≤◌, inl, inr, ℕ, zero, suc, ◌+◌, ◌-◌, ◌*◌, ◌/◌, ◌%◌, ℤ, min, List, [], ◌∷◌, ◌++◌, length, take, drop, reverse, sym, ap, refl, ◌∙◌, arith, add-one, append_assoc, length-append, length-take, length-drop}
 use Rattle.std.proofs.Math.Nat.{mul-mod_left, add-div_left}
 use Rattle.std.proofs.Math.Seq.{take-add}
 use Rattle.std.proofs.lemmas.List.{take_at, drop_at, take_all, take-append-drop, length-take-le}
@@ -7,7 +7,7 @@ use Rattle.mint.specs.declared.kind.Kind.{Kind}
 use Rattle.mint.specs.declared.kind.Kind.TheVariants as kind
 use Rattle.mint.specs.Kinds.{width}
 use Rattle.mint.specs.Row.{Numbers, octets_of, number_in, image_of, numbers_in, numbers_of}
-use Rattle.mint.proofs.Images.{octets_many, numbers-none}
+use Rattle.mint.proofs.Images.{octets_many, numbers-none, some_octets}
 use Rattle.kit_swap.specs.Swapped.{swapped, IsSwapWidth}
 use Rattle.kit_swap.proofs.Swapping.{at_width, swapped-first, swapped-none, swapped-append, length-swapped, swaps_some, whole_runs, swapped-octets}
 
@@ -39,19 +39,6 @@ module _ (w : ℕ) (o f g : List ℕ) (is : IsSwapWidth w) (whole : length o % w
   swapped_left = ap (drop (length o)) so ∙ drop_at (swapped w o) (drop (length o) f) (length o) (length-swapped w o is whole)
 
 -- ---- the numbers of an image, part by part
-
-some_octets : (k : Kind) → 0 < width k
-some_octets kind.Octet = omega arith
-some_octets kind.I8 = omega arith
-some_octets kind.U8 = omega arith
-some_octets kind.Char = omega arith
-some_octets kind.I16 = omega arith
-some_octets kind.U16 = omega arith
-some_octets kind.I32 = omega arith
-some_octets kind.U32 = omega arith
-some_octets kind.I64 = omega arith
-some_octets kind.U64 = omega arith
-some_octets kind.Bool = omega arith
 
 -- a width above one has two orders
 pub swap_width : (k : Kind) → width k ≢ 1 → IsSwapWidth (width k)

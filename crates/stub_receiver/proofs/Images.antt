@@ -1,5 +1,5 @@
 -- The numbers of a row are those of its image, by induction on how many numbers there are.
-use Rattle.std.proofs.Common.{◌≡◌, ℕ, zero, suc, ◌+◌, ◌-◌, ◌*◌, ◌/◌, ◌<◌, ◌≤◌, ℤ, pos, negsuc, List, [], ◌∷◌, ◌++◌, length, take, drop, reverse, Bool, true, false, cond, ltb, Option, None, Some, option_map, refl, sym, ap, ◌∙◌, inl, inr, arith, length-take, length-drop, length-append}
+use Rattle.std.proofs.Common.{◌≡◌, ℕ, zero, suc, ◌+◌, ◌-◌, ◌*◌, ◌/◌, ◌≤◌, ℤ, pos, negsuc, List, [], ◌∷◌, ◌++◌, length, take, drop, reverse, Bool, true, false, cond, ltb, Option, None, Some, option_map, refl, sym, ap, ◌∙◌, inl, inr, arith, length-take, length-drop, length-append}
 use Rattle.std.specs.Prelude.{if◌then◌else◌, ◌&&◌}
 use Rattle.std.specs.List.{list_all}
 use Rattle.std.specs.Int.{Width, w8, w16, w32, w64, from_le_bytes, from_be_bytes}
@@ -26,6 +26,7 @@ use Rattle.cast_stub.specs.Runs.{Place, gives, refuses, Holds}
 use Rattle.stub_receiver.specs.declared.draft.Filling.TheVariants as filling
 use Rattle.stub_receiver.specs.Drawn.{drawn}
 use Rattle.stub_receiver.proofs.Blocking.{block_near, block_gives, block_refuses}
+use Rattle.mint.proofs.Images.{some_octets}
 
 -- ---- words
 
@@ -74,19 +75,6 @@ turned_word kind.I32 o len = turned_4 o len
 turned_word kind.U32 o len = turned_4 o len
 turned_word kind.I64 o len = turned_8 o len
 turned_word kind.U64 o len = turned_8 o len
-
-some_octets : (k : Kind) → 0 < width k
-some_octets kind.Octet = omega arith
-some_octets kind.I8 = omega arith
-some_octets kind.U8 = omega arith
-some_octets kind.Char = omega arith
-some_octets kind.Bool = omega arith
-some_octets kind.I16 = omega arith
-some_octets kind.U16 = omega arith
-some_octets kind.I32 = omega arith
-some_octets kind.U32 = omega arith
-some_octets kind.I64 = omega arith
-some_octets kind.U64 = omega arith
 
 pub own_width : (k : Kind) → width_as (width k) ≡ word k
 own_width kind.Octet = refl
