@@ -3,7 +3,7 @@ use Rattle.std.proofs.Common.{◌≡◌, ℕ, List, refl, ap, ◌∙◌}
 use Rattle.cast_stub.specs.Block.{Block}
 use Rattle.cast_stub.specs.Append.{append, rebase}
 use Rattle.cast_stub.proofs.Appending.{append-stop}
-use Rattle.cast_stub.proofs.Pieces.{seen-Ensure, seen-EnsureRow, seen-Align, seen-Chunk, seen-RowCopy, seen-RowSwap, seen-RowWide, seen-Each, seen-Some, seen-Call, seen-Patch, seen-Switch}
+use Rattle.cast_stub.proofs.Pieces.{pieces}
 use Rattle.cast_stub.proofs.Directions.{sends}
 use Rattle.cast_stub.proofs.Trees.{GoesInto}
 use Rattle.copy_inline.specs.Spliced.{spliced, cases_spliced}
@@ -20,20 +20,4 @@ placed-append inl q a b = ap (rebase q) (spliced-append inl a b) ∙ rebase-appe
 pub goes_into : (inl : ℕ → Block) → GoesInto sends (spliced inl) (cases_spliced inl)
 goes_into inl = record { none = refl; last = λ b. refl; more = λ n b cs. refl }
 
-pub ruleset emitting = (
-  seen-Ensure,
-  seen-EnsureRow,
-  seen-Align,
-  seen-Chunk,
-  seen-RowCopy,
-  seen-RowSwap,
-  seen-RowWide,
-  seen-Each,
-  seen-Some,
-  seen-Call,
-  seen-Patch,
-  seen-Switch,
-  append-stop,
-  rebase-rebase,
-  rebase-none,
-)
+pub ruleset emitting = (pieces, append-stop, rebase-rebase, rebase-none)

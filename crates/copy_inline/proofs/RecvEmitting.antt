@@ -3,7 +3,7 @@ use Rattle.std.proofs.Common.{◌≡◌, ℕ, List, refl, ap, ◌∙◌}
 use Rattle.cast_stub.specs.RecvBlock.{Recv}
 use Rattle.cast_stub.specs.RecvAppend.{append, rebase}
 use Rattle.cast_stub.proofs.RecvAppending.{append-finish}
-use Rattle.cast_stub.proofs.RecvPieces.{seen-Need, seen-NeedRow, seen-SkipAny, seen-SkipZero, seen-Take, seen-Desc, seen-Row, seen-RowWide, seen-Each, seen-Some, seen-Call, seen-Switch}
+use Rattle.cast_stub.proofs.RecvPieces.{pieces}
 use Rattle.cast_stub.proofs.Directions.{receives}
 use Rattle.cast_stub.proofs.Trees.{GoesInto}
 use Rattle.copy_inline.specs.RecvSpliced.{spliced, cases_spliced}
@@ -20,20 +20,4 @@ placed-append inl q a b = ap (rebase q) (spliced-append inl a b) ∙ rebase-appe
 pub goes_into : (inl : ℕ → Recv) → GoesInto receives (spliced inl) (cases_spliced inl)
 goes_into inl = record { none = refl; last = λ b. refl; more = λ n b cs. refl }
 
-pub ruleset emitting = (
-  seen-Need,
-  seen-NeedRow,
-  seen-SkipAny,
-  seen-SkipZero,
-  seen-Take,
-  seen-Desc,
-  seen-Row,
-  seen-RowWide,
-  seen-Each,
-  seen-Some,
-  seen-Call,
-  seen-Switch,
-  append-finish,
-  rebase-rebase,
-  rebase-none,
-)
+pub ruleset emitting = (pieces, append-finish, rebase-rebase, rebase-none)

@@ -12,7 +12,7 @@ use Rattle.cast_stub.specs.Layouts.{order_of, element_width}
 use Rattle.cast_stub.specs.PartTypes.{ty_at, present_at, arms_at}
 use Rattle.cast_stub.specs.Traces.{descs}
 use Rattle.cast_stub.proofs.RecvAppending.{append-assoc}
-use Rattle.cast_stub.proofs.RecvPieces.{seen-Need, seen-NeedRow, seen-SkipAny, seen-SkipZero, seen-Take, seen-Desc, seen-Row, seen-RowWide, seen-Each, seen-Some, seen-Switch}
+use Rattle.cast_stub.proofs.RecvPieces.{seen-NeedRow, pieces}
 use Rattle.copy_inline.specs.declared.sorts.Sort.{Sort}
 use Rattle.copy_inline.specs.declared.sorts.Sort.TheVariants as sort
 use Rattle.copy_inline.specs.Rowed.{by_type}
@@ -77,18 +77,6 @@ both_flat (desc p name size mul r) b h = absurd (none (descs (append r b)) h) wh
   none (Some n) g = let g' : suc n ≡ 0 = cc in omega (arith, g')
 both_flat _ b h = absurd cc
 
-pub ruleset emitting = (
-  seen-Need,
-  seen-NeedRow,
-  seen-SkipAny,
-  seen-SkipZero,
-  seen-Take,
-  seen-Desc,
-  seen-Row,
-  seen-RowWide,
-  seen-Each,
-  seen-Some,
-  seen-Switch,
-)
+pub ruleset emitting = (pieces)
 
 pub ruleset copied = (same_gets)

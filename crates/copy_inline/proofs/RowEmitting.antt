@@ -3,7 +3,7 @@ use Rattle.std.proofs.Common.{◌≡◌, List, ℕ, Option, Some, sym, ap, subst
 use Rattle.mint.specs.Types.{Scalar, Ty, choice_type, Arms}
 use Rattle.cast_stub.specs.Parts.{on_some}
 use Rattle.cast_stub.specs.PartTypes.{ty_at, arms_type, arms_at}
-use Rattle.cast_stub.proofs.Pieces.{seen-Ensure, seen-EnsureRow, seen-Align, seen-Chunk, seen-RowCopy, seen-RowSwap, seen-RowWide, seen-Each, seen-Some, seen-Switch, seen-Patch}
+use Rattle.cast_stub.proofs.Pieces.{pieces}
 use Rattle.copy_inline.specs.Ready.{OfType}
 use Rattle.copy_inline.specs.Rowed.{by_type}
 
@@ -20,16 +20,4 @@ pub arms_there : (path : List ℕ) (t u : Ty) (s : Scalar) (arms : Arms) → Som
     → arms_at path t ≡ Some arms
 arms_there path t u s arms is of = ap (λ (x : Option Ty). on_some x arms_type) (sym is) ∙ ap arms_type of
 
-pub ruleset emitting = (
-  seen-Ensure,
-  seen-EnsureRow,
-  seen-Align,
-  seen-Chunk,
-  seen-RowCopy,
-  seen-RowSwap,
-  seen-RowWide,
-  seen-Each,
-  seen-Some,
-  seen-Switch,
-  seen-Patch,
-)
+pub ruleset emitting = (pieces)

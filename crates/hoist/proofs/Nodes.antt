@@ -1,5 +1,5 @@
 -- Nodes of parts, and bounds of operations before others.
-use Rattle.std.proofs.Common.{◌≡◌, ℕ, zero, suc, ◌+◌, ◌<◌, ℤ, List, [], ◌∷◌, length, drop, get_or, Option, Some, None, option_map, refl, sym, ap, ◌∙◌, arith, add-one, Bool, true, false, if◌then◌else◌}
+use Rattle.std.proofs.Common.{◌≡◌, ℕ, zero, suc, ◌+◌, ◌<◌, ℤ, List, [], ◌∷◌, length, drop, get_or, Option, Some, None, option_map, refl, sym, ap, ◌∙◌, arith, Bool, true, false, if◌then◌else◌}
 use Rattle.std.specs.Prelude.{slice_get}
 use Rattle.std.proofs.Math.Seq.{drop-cons}
 use Rattle.std.specs.Ordering.{int_eq}
@@ -12,7 +12,7 @@ use Rattle.cast_stub.specs.Parts.{on_some}
 use Rattle.cast_stub.specs.Block.{Block, Piece, op_seen, code_seen, cases_seen}
 use Rattle.cast_stub.specs.PartTypes.{field_type, element_at, present_at, arms_at}
 use Rattle.cast_stub.proofs.Codes.{code-drop}
-use Rattle.cast_stub.proofs.Pieces.{seen-Ensure, seen-EnsureRow, seen-Align, seen-Chunk, seen-RowCopy, seen-RowSwap, seen-RowWide, seen-Each, seen-Some, seen-Call, seen-Patch, seen-Switch}
+use Rattle.cast_stub.proofs.Pieces.{pieces}
 use Rattle.hoist.specs.Bound.{plus, greater, bound, cases_bound}
 
 abbrev pair : Ty → Count → Ty × Count
@@ -40,26 +40,7 @@ pub none-more : (m : Option ℕ) → plus (Some 0) m ≡ m
 none-more None = refl
 none-more (Some n) = let e : 0 + n ≡ n = omega arith in ap (λ (k : ℕ). Some k) e
 
-pub ruleset nodes = (
-  field-at,
-  no-elements,
-  no-value,
-  no-arms,
-  code-drop,
-  none-more,
-  seen-Ensure,
-  seen-EnsureRow,
-  seen-Align,
-  seen-Chunk,
-  seen-RowCopy,
-  seen-RowSwap,
-  seen-RowWide,
-  seen-Each,
-  seen-Some,
-  seen-Call,
-  seen-Patch,
-  seen-Switch,
-)
+pub ruleset nodes = (field-at, no-elements, no-value, no-arms, code-drop, none-more, pieces)
 
 -- ---- arms and bodies in step
 

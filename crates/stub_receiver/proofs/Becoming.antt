@@ -16,7 +16,7 @@ use Rattle.cast_stub.specs.Draft.{Draft, Drafts, no_draft, draft, settle, settle
 use Rattle.cast_stub.specs.Draft as drafts
 use Rattle.stub_receiver.specs.declared.draft.Filling.{Filling}
 use Rattle.stub_receiver.specs.Drawn.{drawn, all_drawn}
-use Rattle.stub_receiver.proofs.Drafting.{drawn-Raw, drawn-Digit, drawn-Listed, drawn-Lined, drawn-Tagged, drawn-Flagged, drawn-Done, drawn-Fields, no_node}
+use Rattle.stub_receiver.proofs.Drafting.{drawn-Fields, no_node, drawing}
 
 there_mapped : {A B : Type 0} (z : Option A) (f : A → B) → IsThere (option_map f z) → IsThere z
 there_mapped None f h = h
@@ -25,19 +25,7 @@ there_mapped (Some a) f h = tt
 pub fields_there : (ds : Drafts) → IsThere (option_map group (settles ds)) → IsThere (settles ds)
 fields_there ds h = there_mapped (settles ds) group h
 
-pub ruleset settling = (
-  drawn-Raw,
-  drawn-Digit,
-  drawn-Listed,
-  drawn-Lined,
-  drawn-Tagged,
-  drawn-Flagged,
-  drawn-Done,
-  drawn-Fields,
-  no_node,
-  seen-Void,
-  fields_there,
-)
+pub ruleset settling = (drawing, no_node, seen-Void, fields_there)
 
 -- ---- how many structs are nested
 

@@ -140,18 +140,6 @@ got_field (x ∷ ds) (suc n) d e lt is = got_field ds n d e (omega (arith, lt)) 
 
 pub ruleset drafting = (drawn-Raw, drawn-Fields, no_node)
 
-pub ruleset exchanging = (
-  drawn-Raw,
-  drawn-Digit,
-  drawn-Listed,
-  drawn-Lined,
-  drawn-Tagged,
-  drawn-Flagged,
-  drawn-Done,
-  drawn-Fields,
-  path-drop,
-  field_there,
-  field_is,
-)
-
 pub ruleset drawing = (drawn-Raw, drawn-Digit, drawn-Listed, drawn-Lined, drawn-Tagged, drawn-Flagged, drawn-Done, drawn-Fields)
+
+pub ruleset exchanging = (drawing, path-drop, field_there, field_is)

@@ -22,7 +22,7 @@ use Rattle.stub_receiver.specs.Ran.{Took}
 use Rattle.stub_receiver.specs.declared.draft.Filling.{Filling}
 use Rattle.stub_receiver.specs.declared.draft.Filling.TheVariants as filling
 use Rattle.stub_receiver.specs.Drawn.{array_at, drawn, scalar_in, passing, digit_passing}
-use Rattle.stub_receiver.proofs.Drafting.{drawn-Raw, drawn-Digit, drawn-Listed, drawn-Lined, drawn-Tagged, drawn-Flagged, drawn-Done, drawn-Fields, no_node}
+use Rattle.stub_receiver.proofs.Drafting.{drawn-Raw, drawn-Digit, no_node, drawing}
 
 pub seen-Num : (n : ℤ) → seen (value.Num n) ≡ num n
 seen-Num n = ap seen (sym (value.rolls-Num n)) ∙ fold-roll-Value Val seen_level (Value-F.Num n)
@@ -113,15 +113,4 @@ module _ (ns : List Node) (old : Filling) (id : ℕ) (nd : Node) (tag : Tag) (ar
   tag_missing found =
       ap (λ (d : Draft). tag_into x m d s) whole ∙ tag_taken (unfolded ns) (scalar_of tag) arms other x m n None s passes found
 
-pub ruleset getting = (
-  drawn-Raw,
-  drawn-Digit,
-  drawn-Listed,
-  drawn-Lined,
-  drawn-Tagged,
-  drawn-Flagged,
-  drawn-Done,
-  drawn-Fields,
-  no_node,
-  seen-None,
-)
+pub ruleset getting = (drawing, no_node, seen-None)

@@ -13,7 +13,7 @@ use Rattle.cast_stub.specs.Draft.{Draft, done, length_in}
 use Rattle.cast_stub.specs.Fill.{in_draft, field_at, part}
 use Rattle.stub_receiver.specs.declared.draft.Filling.{Filling}
 use Rattle.stub_receiver.specs.Drawn.{drawn, all_drawn}
-use Rattle.stub_receiver.proofs.Drafting.{drawn-Raw, drawn-Digit, drawn-Listed, drawn-Lined, drawn-Tagged, drawn-Flagged, drawn-Done, drawn-Fields, no_node}
+use Rattle.stub_receiver.proofs.Drafting.{no_node, drawing}
 
 pub field-get : (ns : List Node) (n : ℕ) (ds : List Filling) → field_at n (all_drawn ns ds) ≡ option_map (drawn ns) (slice_get ds n)
 field-get ns n [] = refl
@@ -32,15 +32,4 @@ pub items-long : (vs : List Value) → length_in (done (seen (value.Items vs))) 
 items-long vs = ap (λ (v : Val). length_in (done v))
     (ap seen (sym (value.rolls-Items vs)) ∙ fold-roll-Value Val seen_level (Value-F.Items vs)) ∙ ap Some (count-all_seen vs)
 
-pub ruleset lengths = (
-  drawn-Raw,
-  drawn-Digit,
-  drawn-Listed,
-  drawn-Lined,
-  drawn-Tagged,
-  drawn-Flagged,
-  drawn-Done,
-  drawn-Fields,
-  no_node,
-  items-long,
-)
+pub ruleset lengths = (drawing, no_node, items-long)

@@ -8,7 +8,7 @@ use Rattle.cast_stub.specs.Runs.{Place, Run, gives, refuses, strays, Filler, map
 use Rattle.stub_receiver.specs.declared.draft.Filling.{Filling}
 use Rattle.stub_receiver.specs.Drawn.{drawn, all_drawn}
 use Rattle.stub_receiver.specs.Ran.{Tested}
-use Rattle.stub_receiver.proofs.Drafting.{drawn-Raw, drawn-Digit, drawn-Listed, drawn-Lined, drawn-Tagged, drawn-Flagged, drawn-Done, drawn-Fields, path-drop}
+use Rattle.stub_receiver.proofs.Drafting.{path-drop, drawing}
 
 pub holds_in : {A B : Type 0} (g : A → B) (z : Run A) → Holds (map_run g z) → Holds z
 holds_in g (gives x t) h = tt
@@ -48,14 +48,4 @@ module _ (f : Filler) (ns : List Node) (s : Place) where
       tested_in (draft (drawn ns x)) result (all_drawn ns (slice_set ds n d')) s (at_field n f (all_drawn ns ds) s)
       (at_tested n ds d d' result e h)
 
-pub ruleset putting = (
-  drawn-Raw,
-  drawn-Digit,
-  drawn-Listed,
-  drawn-Lined,
-  drawn-Tagged,
-  drawn-Flagged,
-  drawn-Done,
-  drawn-Fields,
-  path-drop,
-)
+pub ruleset putting = (drawing, path-drop)

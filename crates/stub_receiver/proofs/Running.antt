@@ -39,7 +39,7 @@ use Rattle.cast_stub.specs.declared.recv.RecvCode.{RecvCode}
 use Rattle.cast_stub.specs.Subs.{deepest}
 use Rattle.cast_stub.specs.Got.{calls_of, called, received, IsExact}
 use Rattle.cast_stub.proofs.RecvAppending.{fill-append, op-append}
-use Rattle.cast_stub.proofs.RecvPieces.{seen-Need, seen-NeedRow, seen-SkipAny, seen-SkipZero, seen-Take, seen-Desc, seen-Row, seen-RowWide, seen-Each, seen-Switch, seen-Some, seen-Call}
+use Rattle.cast_stub.proofs.RecvPieces.{seen-Each, seen-Switch, seen-Some, pieces}
 use Rattle.stub_receiver.specs.declared.errors.Halt.{Halt}
 use Rattle.stub_receiver.specs.declared.errors.Halt.TheVariants.{Refused, NoMemory}
 use Rattle.stub_receiver.specs.Drawn.{drawn, array_at, numbers_in}
@@ -50,31 +50,10 @@ use Rattle.stub_receiver.specs.declared.looping.Elements.TheVariants as elements
 use Rattle.stub_receiver.specs.Picking.{picked, Picks}
 use Rattle.stub_receiver.specs.Ran.{Ran, Gave}
 use Rattle.cast_stub.specs.Runs.{Holds}
-use Rattle.stub_receiver.proofs.Drafting.{drawn-Raw, drawn-Digit, drawn-Listed, drawn-Lined, drawn-Tagged, drawn-Flagged, drawn-Done, drawn-Fields, no_node}
+use Rattle.stub_receiver.proofs.Drafting.{drawn-Tagged, drawn-Done, no_node, drawing}
 use Rattle.stub_receiver.proofs.Within.{first_holds, within_there, within_holds, at_gives, at_halts}
 
-pub ruleset running = (
-  drawn-Raw,
-  drawn-Digit,
-  drawn-Listed,
-  drawn-Lined,
-  drawn-Tagged,
-  drawn-Flagged,
-  drawn-Done,
-  drawn-Fields,
-  seen-Need,
-  seen-NeedRow,
-  seen-SkipAny,
-  seen-SkipZero,
-  seen-Take,
-  seen-Desc,
-  seen-Row,
-  seen-RowWide,
-  seen-Each,
-  seen-Switch,
-  seen-Some,
-  seen-Call,
-)
+pub ruleset running = (drawing, no_node, pieces)
 
 -- ---- one operation and those after it
 
