@@ -41,7 +41,8 @@ use Rattle.stub_lower.proofs.Words as words
 use Rattle.stub_lower.proofs.Words.{width_same, word-octet}
 use Rattle.stub_lower.proofs.Encoded.{ScalarsSend, ArraysSend, over-writes, octets_long, letters_are_octets}
 use Rattle.stub_lower.proofs.RecvItems.{rest_whole}
-use Rattle.stub_lower.proofs.UnitLaws.{Units, single, twice, units, name_small, bits_small, along, along_one, along_words, along_times}
+use Rattle.stub_lower.proofs.UnitLaws.{Units, single, twice, units, along, along_one, along_words, along_times}
+use Rattle.wire_def.proofs.DescribedGrammar.{name_small, bits_small}
 
 -- ---- puts, each of which begins where the one before it ends
 

@@ -19,7 +19,8 @@ use Rattle.cast_stub.specs.Into.{same_octets, length_of, allows, little}
 use Rattle.stub_lower.proofs.Agreeing.{SameEnds}
 use Rattle.stub_lower.proofs.RecvEncoded.{same_true}
 use Rattle.stub_lower.proofs.RecvItems.{word_is, word_read}
-use Rattle.stub_lower.proofs.UnitLaws.{Units, single, twice, units, elements_back, elements_are, name_small, bits_small}
+use Rattle.stub_lower.proofs.UnitLaws.{Units, single, twice, units, elements_back, elements_are}
+use Rattle.wire_def.proofs.DescribedGrammar.{name_small, bits_small}
 
 -- the length of which so many units are the multiple, and that many units again
 length_once : (m : ℕ) → length_of 1 0 m ≡ Some m

@@ -5,8 +5,7 @@ use Rattle.std.specs.Int.{Width, w32, byte_len, from_le_bytes}
 use Rattle.std.proofs.lemmas.Bool.{le-ltb, ltb-true, ltb-false, eq-eqb, eqb-true}
 use Rattle.std.proofs.lemmas.List.{length-drop, length-take, drop-drop}
 use Rattle.kit_base.specs.Bytes.{le}
-use Rattle.mint.specs.declared.kind.Kind.TheVariants as kind
-use Rattle.mint.specs.Types.{Scalar, number, label}
+use Rattle.mint.specs.Types.{Scalar, number}
 use Rattle.mint.specs.Typed.{is_scalar}
 use Rattle.wire_def.specs.declared.encoding.Encoding.TheVariants.{Mach}
 use Rattle.wire_def.specs.declared.fault.FaultKind.{FaultKind}
@@ -32,6 +31,7 @@ use Rattle.stub_lower.specs.RecvCodes.{item_code}
 use Rattle.stub_lower.proofs.Words.{width_same}
 use Rattle.stub_lower.proofs.Agreeing.{Agrees, Same, agrees-ends, SameEnds}
 use Rattle.stub_lower.proofs.RecvEncoded.{tested_place, passed_place, pass_tested, le_true, octets_dropped, word_tested, width_is, scalar_read, Reads, taken, Takes, LonesRead}
+use Rattle.wire_def.proofs.Sent.{word_below}
 
 -- ---- octets that must be these
 
@@ -88,20 +88,6 @@ word_read p o =
     let none : gap p 1 ≡ 0 = omega arith in
     ap (λ (g : ℕ). if nat_lt (length o) (g + 4) then stop Short (p + g)
     else got (from_le_bytes w32 (take 4 (drop g o))) (p + (g + 4)) (drop 4 (drop g o))) none
-
-word_small : (t : Scalar) → scalar_word t < 4294967296
-word_small (label ls) = omega arith
-word_small (number kind.Octet) = omega arith
-word_small (number kind.I8) = omega arith
-word_small (number kind.U8) = omega arith
-word_small (number kind.Char) = omega arith
-word_small (number kind.I16) = omega arith
-word_small (number kind.U16) = omega arith
-word_small (number kind.I32) = omega arith
-word_small (number kind.U32) = omega arith
-word_small (number kind.I64) = omega arith
-word_small (number kind.U64) = omega arith
-word_small (number kind.Bool) = omega arith
 
 rest_placed : (w : Width) → IsOwn w → (byte_len w + gap (byte_len w) 4) % 4 ≡ 0
 rest_placed _ is8 = refl
@@ -246,7 +232,7 @@ module _ (t : Scalar) where
         else stop BadItem p))
         (λ u q l. map_got (λ y. (u, y)) (then_on (read_scalar Mach t q l) (λ n q l. filled n (read_any (filling t) q l))))))
     after b0 b2 is one two =
-        rw (sym (word_is (scalar_word t) o (word_small t) oct (ltb-false (length o) 4 one)) ∙ two) (chosen b0 b2 is) where
+        rw (sym (word_is (scalar_word t) o (word_below t) oct (ltb-false (length o) 4 one)) ∙ two) (chosen b0 b2 is) where
           chosen : (b0 b2 : Bool) → nat_lt (length o) N ≡ b0
               → SameEnds (known b0 b2 (is_scalar t (inside o)) p o)
               (map_got (λ (x : Unit {0} × (ℤ × Unit {0})). x.1.0)

@@ -1,11 +1,11 @@
 -- Units of Mach messages, and so many elements of so many octets.
-use Rattle.std.proofs.Common.{◌≡◌, ℕ, zero, suc, ◌+◌, ◌*◌, ◌/◌, ◌%◌, ◌<◌, refl, sym, ◌∙◌, arith, zero-mul, true}
+use Rattle.std.proofs.Common.{◌≡◌, ℕ, zero, suc, ◌+◌, ◌*◌, ◌/◌, ◌%◌, refl, sym, ◌∙◌, arith, zero-mul, true}
 use Rattle.std.specs.Prelude.{nat_eq}
 use Rattle.std.proofs.lemmas.Bool.{eq-eqb, eqb-true}
 use Rattle.std.proofs.Math.Nat.{suc-mul}
 use Rattle.mint.specs.declared.kind.Kind.TheVariants as kind
 use Rattle.mint.specs.Types.{Scalar, number, label}
-use Rattle.wire_def.specs.Lone.{unit_name, unit_bits, units_of}
+use Rattle.wire_def.specs.Lone.{units_of}
 use Rattle.wire_def.specs.Described.{is_whole, elements_in}
 
 -- ---- how many elements so many units are
@@ -47,34 +47,6 @@ elements_are s m = either (units s) where
       let even : m * 2 % 2 ≡ 0 = omega arith in
       let half : m * 2 / 2 ≡ m = omega arith in
       (w (m * units_of s) ∙ rw u (eq-eqb (m * 2 % 2) 0 even), count (m * units_of s) ∙ rw u half)
-
-pub name_small : (s : Scalar) → unit_name s < 256
-name_small (label ls) = omega arith
-name_small (number kind.Octet) = omega arith
-name_small (number kind.I8) = omega arith
-name_small (number kind.U8) = omega arith
-name_small (number kind.Char) = omega arith
-name_small (number kind.I16) = omega arith
-name_small (number kind.U16) = omega arith
-name_small (number kind.I32) = omega arith
-name_small (number kind.U32) = omega arith
-name_small (number kind.I64) = omega arith
-name_small (number kind.U64) = omega arith
-name_small (number kind.Bool) = omega arith
-
-pub bits_small : (s : Scalar) → unit_bits s < 256
-bits_small (label ls) = omega arith
-bits_small (number kind.Octet) = omega arith
-bits_small (number kind.I8) = omega arith
-bits_small (number kind.U8) = omega arith
-bits_small (number kind.Char) = omega arith
-bits_small (number kind.I16) = omega arith
-bits_small (number kind.U16) = omega arith
-bits_small (number kind.I32) = omega arith
-bits_small (number kind.U32) = omega arith
-bits_small (number kind.I64) = omega arith
-bits_small (number kind.U64) = omega arith
-bits_small (number kind.Bool) = omega arith
 
 -- ---- elements of so many octets
 

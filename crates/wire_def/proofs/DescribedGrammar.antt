@@ -118,47 +118,29 @@ described_typed c s p o n ((x, many, (a, b, is, first, rest), right), ok) =
 
 -- ---- what is sent is spelled
 
-units_few : (s : Scalar) → units_of s ≤ 2
-units_few (label ls) = omega arith
-units_few (number kind.I64) = omega arith
-units_few (number kind.U64) = omega arith
-units_few (number kind.Octet) = omega arith
-units_few (number kind.I8) = omega arith
-units_few (number kind.U8) = omega arith
-units_few (number kind.Char) = omega arith
-units_few (number kind.I16) = omega arith
-units_few (number kind.U16) = omega arith
-units_few (number kind.I32) = omega arith
-units_few (number kind.U32) = omega arith
-units_few (number kind.Bool) = omega arith
+-- a unit of a scalar, in bounds
+units_small : (s : Scalar) → (units_of s ≤ 2) × (unit_name s < 256) × (unit_bits s < 256)
+units_small (label ls) = (omega arith, omega arith, omega arith)
+units_small (number kind.Octet) = (omega arith, omega arith, omega arith)
+units_small (number kind.I8) = (omega arith, omega arith, omega arith)
+units_small (number kind.U8) = (omega arith, omega arith, omega arith)
+units_small (number kind.Char) = (omega arith, omega arith, omega arith)
+units_small (number kind.I16) = (omega arith, omega arith, omega arith)
+units_small (number kind.U16) = (omega arith, omega arith, omega arith)
+units_small (number kind.I32) = (omega arith, omega arith, omega arith)
+units_small (number kind.U32) = (omega arith, omega arith, omega arith)
+units_small (number kind.I64) = (omega arith, omega arith, omega arith)
+units_small (number kind.U64) = (omega arith, omega arith, omega arith)
+units_small (number kind.Bool) = (omega arith, omega arith, omega arith)
 
-name_small : (s : Scalar) → unit_name s < 256
-name_small (label ls) = omega arith
-name_small (number kind.I64) = omega arith
-name_small (number kind.U64) = omega arith
-name_small (number kind.Octet) = omega arith
-name_small (number kind.I8) = omega arith
-name_small (number kind.U8) = omega arith
-name_small (number kind.Char) = omega arith
-name_small (number kind.I16) = omega arith
-name_small (number kind.U16) = omega arith
-name_small (number kind.I32) = omega arith
-name_small (number kind.U32) = omega arith
-name_small (number kind.Bool) = omega arith
+pub units_few : (s : Scalar) → units_of s ≤ 2
+units_few s = (units_small s).0
 
-bits_small : (s : Scalar) → unit_bits s < 256
-bits_small (label ls) = omega arith
-bits_small (number kind.I64) = omega arith
-bits_small (number kind.U64) = omega arith
-bits_small (number kind.Octet) = omega arith
-bits_small (number kind.I8) = omega arith
-bits_small (number kind.U8) = omega arith
-bits_small (number kind.Char) = omega arith
-bits_small (number kind.I16) = omega arith
-bits_small (number kind.U16) = omega arith
-bits_small (number kind.I32) = omega arith
-bits_small (number kind.U32) = omega arith
-bits_small (number kind.Bool) = omega arith
+pub name_small : (s : Scalar) → unit_name s < 256
+name_small s = (units_small s).1
+
+pub bits_small : (s : Scalar) → unit_bits s < 256
+bits_small s = (units_small s).2
 
 whole_of : (s : Scalar) (n : ℕ) → is_whole s (n * units_of s) ≡ true
 whole_of (label ls) n = refl

@@ -40,7 +40,7 @@ pub scalar_sent : (e : Encoding) (s : Scalar) (p : ℕ) (n : ℤ) → IsScalar s
 unfolding ScalarSpells scalar_octets WordSpells
 scalar_sent e s p n h = ((replicate (gap p (alignment_of e s)) 0, length-replicate _ _, refl, residue_below (width_of e s) n), h)
 
-word_below : (s : Scalar) → scalar_word s < 4294967296
+pub word_below : (s : Scalar) → scalar_word s < 4294967296
 word_below (label labels) = omega arith
 word_below (number kind.Octet) = omega arith
 word_below (number kind.I8) = omega arith
