@@ -14,6 +14,14 @@ pub mod Copied
 pub mod Pieces
 -- The octets of numbers that words can hold, and octets that fill a chunk
 pub mod Putting
+-- Widths of 1, 2, 4 and 8 octets
+pub mod Widths
+-- The octets of a number of a kind, as code puts them
+pub mod RowWords
+-- A chunk has as many octets as it says, by induction on its puts and cells
+pub mod Filled
+-- Octets of which four are written anew are as many
+pub mod Patched
 -- Code that puts a number of the head, and the heads that it is covered for
 mod Covering
 -- * The calls that are run: of blocks in turn, without ensures, and of code without calls, by induction on the code

@@ -3,6 +3,10 @@ use Rattle.std.proofs.Common.{◌≡◌, ℕ, zero, suc, ◌+◌, ◌<◌, ℤ, 
 use Rattle.std.proofs.Math.ListN.{take}
 use Rattle.std.proofs.lemmas.List.{take_more, map-append}
 
+-- two facts, each exactly where another holds
+pub beside : {A B C D : Type 0} → (A → B) × (B → A) → (C → D) × (D → C) → (A × C → B × D) × (B × D → A × C)
+beside x y = (λ h. (x.0 h.0, y.0 h.1), λ h. (x.1 h.0, y.1 h.1))
+
 -- operations, what they are seen as, and the facts of them that lemmas for both directions go by
 pub record Trees : Type 1 where
   -- operations, blocks, and bodies of a switch

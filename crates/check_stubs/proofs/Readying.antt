@@ -30,7 +30,7 @@ use Rattle.cast_stub.proofs.Appending.{append-stop, steps-append}
 use Rattle.cast_stub.proofs.Folding.{wrote-append}
 use Rattle.stub_lower.specs.Leads.{chunk_puts, AreChunks, Leads}
 use Rattle.stub_lower.specs.Lowered.{CodesSend}
-use Rattle.stub_machine.proofs.Rooms.{length-written, four, within}
+use Rattle.stub_machine.proofs.Rooms.{within}
 use Rattle.copy_inline.specs.Inlined.{Does, Goes, Turns}
 use Rattle.copy_inline.specs.Rows as rows
 use Rattle.copy_inline.proofs.RowGiven.{hoisted_given}
@@ -45,6 +45,7 @@ use Rattle.cast_stub.proofs.Followed.{mapped}
 use Rattle.back_xdr.specs.declared.procedures.Procedure.{Procedure}
 use Rattle.back_xdr.specs.Leads.{lead, reply_lead}
 use Rattle.check_stubs.specs.Ready.{IsLead, IsBoth}
+use Rattle.cast_stub.proofs.Patched.{length-written, four}
 
 -- ---- chunks
 

@@ -16,9 +16,11 @@ use Rattle.chunker.specs.Chunked.{moved, consts_joined, zeros, chunk_of, closed,
 use Rattle.chunker.specs.Left.{by_fours, leave, looped, switched, perhaps}
 use Rattle.chunker.specs.Phases.{AtPhase, unknown, modulo, shift, is_known}
 use Rattle.chunker.proofs.Ending.{leads_some, leads_on_some, leads_over, leads_present, leads_anywhere, leads_wide, place, left, turn, case_left}
-use Rattle.chunker.proofs.Filled.{filled_length, filled_two, filled_joined, filled_zeros, zeros_few, joined_few}
+use Rattle.chunker.proofs.Filled.{filled_two, filled_joined, filled_zeros, zeros_few, joined_few}
 use Rattle.chunker.proofs.Keeping.{Keeps, Becomes, becomes_same, becomes_both, becomes_on_some, becomes_over, becomes_present, becomes_at, becomes_if, none_stored, fewer_stored, two_stored, padded_stored, strip}
-use Rattle.chunker.proofs.Known.{at_shift, known_gap, behind_gap, wide_is, meet_first, meet_second}
+use Rattle.chunker.proofs.Known.{at_shift, known_gap, behind_gap, meet_first, meet_second}
+use Rattle.cast_stub.proofs.Widths.{wide_is}
+use Rattle.cast_stub.proofs.Filled.{length-filled}
 
 -- behind a chunk that is open
 abbrev pub Behind : Phase → ℕ → ℕ → Type 0
@@ -73,7 +75,7 @@ module _ (h : Head) (c d : Calls) (agree : (k : ℕ) (A : ℕ → Type 0) (w : V
       → Becomes (Behind ph n) (open_before o (length ps) x) (steps d h (closed n ps r) v)
   ended ph v n ps o r x f g =
       chunk_becomes (Behind ph n) v n o (length ps) (consts_joined 0 [] ps) r x (AtPhase ph) (filled_joined h v n ps o f) (joined_few ps)
-      (λ p a. subst (λ (k : ℕ). AtPhase ph (p + k)) (sym (filled_length h v n ps o f)) a) g
+      (λ p a. subst (λ (k : ℕ). AtPhase ph (p + k)) (sym (length-filled h v ps n o f)) a) g
 
   -- ---- the open chunk goes on
 
@@ -138,7 +140,7 @@ module _ (h : Head) (c d : Calls) (agree : (k : ℕ) (A : ℕ → Type 0) (w : V
     by_known true e w =
         more_zeros ph v n a ps o (steps c h r v) (steps d h (chunked (shift ph (gap ph.r a)) (n + gap ph.r a) (ps ++ zeros n
         (gap ph.r a)) r) v)
-        (filled_length h v n ps o f) e
+        (length-filled h v ps n o f) e
         on
     by_known false e w =
         ended ph v n ps o (align a (chunked (modulo a 0) 0 [] r)) (both (Some (Pad a ∷ [])) (steps c h r v)) f

@@ -22,10 +22,11 @@ use Rattle.chunker.specs.Phases.{IsPhase, AtPhase, unknown}
 use Rattle.cast_stub.specs.Skeletons.{skeleton, IsRunShort}
 use Rattle.chunker.proofs.Chunking.{begins}
 use Rattle.chunker.proofs.Keeping.{Keeps, Becomes, becomes_at}
-use Rattle.chunker.proofs.Known.{Wide, one, two, four, eight, anywhere, wide_is}
+use Rattle.chunker.proofs.Known.{anywhere}
 use Rattle.chunker.proofs.Moves.{Few, moves_few, in_chunked}
 use Rattle.chunker.proofs.Shortness.{fresh}
 use Rattle.chunker.proofs.Skeleton.{bare, same_calls}
+use Rattle.cast_stub.proofs.Widths.{Wide, one, two, four, eight, wide_is}
 
 rest_at : (m r : ℕ) → Wide m → r < m → r % m ≡ r
 rest_at _ r one lt = omega (arith, lt)

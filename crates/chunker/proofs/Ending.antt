@@ -16,8 +16,8 @@ use Rattle.cast_stub.specs.Steps.{Step, Room, Pad, Stored, Widened, Copied, Patc
 use Rattle.chunker.specs.declared.phase.Phase.{Phase}
 use Rattle.chunker.specs.Left.{meet_end, or_unknown, by_fours, leave, cases_leave, looped, switched, perhaps}
 use Rattle.chunker.specs.Phases.{AtPhase, unknown, shift, aligned, meet}
-use Rattle.chunker.proofs.Filled.{some_of, filled_length}
 use Rattle.chunker.proofs.Known.{anywhere, at_shift, at_aligned, at_fours, meet_first, meet_second}
+use Rattle.cast_stub.proofs.Filled.{some_of, length-filled}
 
 -- the place behind steps
 abbrev pub place : ℕ → List Step → ℕ
@@ -83,7 +83,7 @@ chunk_leads : (ph : Phase) (s : ℕ) (ps : List Put) (h : Head) (v : Val) (x : O
 chunk_leads ph s ps h v None f = λ ss e p at. absurd cc
 chunk_leads ph s ps h v (Some o) f =
     leads_some (Stored o (length ps) ∷ []) (AtPhase ph) (AtPhase (shift ph s)) (λ p at.
-    subst (λ (k : ℕ). AtPhase (shift ph s) (p + k)) (sym (filled_length h v s ps o f)) (at_shift ph p s at))
+    subst (λ (k : ℕ). AtPhase (shift ph s) (p + k)) (sym (length-filled h v ps s o f)) (at_shift ph p s at))
 
 pub leads_chunk : (ph : Phase) (s : ℕ) (ps : List Put) (h : Head) (v : Val) → Leads (chunk_steps s ps h v) (AtPhase ph) (AtPhase
     (shift ph s))

@@ -10,16 +10,7 @@ use Rattle.cast_stub.specs.Parts.{on_some}
 use Rattle.cast_stub.specs.Puts.{put_octets, offset, Cells, placed, put_one, put_all, full, filled}
 use Rattle.cast_stub.proofs.Putting.{placed_whole, full_whole}
 use Rattle.chunker.specs.Chunked.{moved, const_of, with_const, taken, consts_joined, zeros}
-
--- what an option that is there is made of
-pub some_of : {A B : Type 0} (o : Option A) (f : A → Option B) (b : B) → on_some o f ≡ Some b → (a : A) × ((o ≡ Some a) × (f a ≡ Some b))
-some_of None f b e = absurd cc
-some_of (Some a) f b e = (a, (refl, e))
-
-pub mapped_of : {A B : Type 0} (o : Option A) (f : A → B) (b : B) → option_map f o ≡ Some b → (a : A) × ((o ≡ Some a) × (f a ≡ b))
-mapped_of None f b e = absurd cc
-mapped_of (Some a) f b e =
-    let same : f a ≡ b = cc in (a, (refl, same))
+use Rattle.cast_stub.proofs.Filled.{some_of, mapped_of, put_length}
 
 -- ---- cells
 
@@ -42,17 +33,6 @@ placed_behind (x ∷ xs) n os cs ds e =
     let more : suc (n + length xs) ≡ n + length (x ∷ xs) = omega arith in
     subst (λ (k : ℕ). placed k os (x ∷ xs ++ cs) ≡ Some (x ∷ xs ++ ds)) more
     (ap (option_map (λ (y : Cells). x ∷ y)) (placed_behind xs n os cs ds e))
-
-placed_length : (n : ℕ) (os : List ℕ) (cs ds : Cells) → placed n os cs ≡ Some ds → length ds ≡ length cs
-placed_length zero [] cs ds e = let same : cs ≡ ds = cc in sym (ap length same)
-placed_length zero (o ∷ os) [] ds e = absurd cc
-placed_length zero (o ∷ os) (c ∷ cs) ds e =
-    let m = mapped_of (placed zero os cs) (λ (x : Cells). Some o ∷ x) ds e in
-    sym (ap length m.1.1) ∙ ap suc (placed_length zero os cs m.0 m.1.0)
-placed_length (suc n) os [] ds e = absurd cc
-placed_length (suc n) os (c ∷ cs) ds e =
-    let m = mapped_of (placed n os cs) (λ (x : Cells). c ∷ x) ds e in
-    sym (ap length m.1.1) ∙ ap suc (placed_length n os cs m.0 m.1.0)
 
 placed_none : (n : ℕ) (cs ds : Cells) → placed n [] cs ≡ Some ds → cs ≡ ds
 placed_none zero cs ds e = cc
@@ -139,13 +119,6 @@ module _ (h : Head) (v : Val) where
       let one = some_of (put_one h v p cs) (put_all h v ps) ds e in
       ap (λ (x : Option Cells). on_some x (put_all h v (ps ++ qs))) one.1.0 ∙ put_after ps qs one.0 ds es one.1.1 f
 
-  put_length : (ps : List Put) (cs ds : Cells) → put_all h v ps cs ≡ Some ds → length ds ≡ length cs
-  put_length [] cs ds e = let same : cs ≡ ds = cc in sym (ap length same)
-  put_length (p ∷ ps) cs ds e =
-      let one = some_of (put_one h v p cs) (put_all h v ps) ds e in
-      let os = some_of (put_octets h p v) (λ (l : List ℕ). placed (offset p) l cs) one.0 one.1.0 in
-      put_length ps one.0 ds one.1.1 ∙ placed_length (offset p) os.0 cs one.0 os.1.1
-
   -- ---- constants
 
   const_maybe : (a : ℕ) (xs : List ℕ) (ps : List Put) (cs ds : Cells) → put_all h v (put.Const a xs ∷ ps) cs ≡ Some ds
@@ -224,22 +197,9 @@ module _ (h : Head) (v : Val) where
       let m = mapped_of (full cs) (λ (l : List ℕ). c ∷ l) xs e in
       ap (option_map (λ (l : List ℕ). c ∷ l)) (full_append cs ds m.0 ys m.1.0 f) ∙ ap (λ (l : List ℕ). Some (l ++ ys)) m.1.1
 
-  full_length : (cs : Cells) (xs : List ℕ) → full cs ≡ Some xs → length xs ≡ length cs
-  full_length [] xs e = let same : [] ≡ xs = cc in sym (ap length same)
-  full_length (None ∷ cs) xs e = absurd cc
-  full_length (Some c ∷ cs) xs e =
-      let m = mapped_of (full cs) (λ (l : List ℕ). c ∷ l) xs e in
-      sym (ap length m.1.1) ∙ ap suc (full_length cs m.0 m.1.0)
-
   empty_cells : (n : ℕ) → length (replicate n hole) ≡ n
   empty_cells zero = refl
   empty_cells (suc n) = ap suc (empty_cells n)
-
-  -- a chunk has as many octets as its size
-  pub filled_length : (n : ℕ) (ps : List Put) (o : List ℕ) → filled n ps h v ≡ Some o → length o ≡ n
-  filled_length n ps o e =
-      let c = some_of (put_all h v ps (replicate n hole)) full o e in
-      full_length c.0 o c.1.1 ∙ put_length ps (replicate n hole) c.0 c.1.0 ∙ empty_cells n
 
   -- two chunks as one
   pub filled_two : (n s : ℕ) (ps qs : List Put) (o x : List ℕ) → filled n ps h v ≡ Some o → filled s qs h v ≡ Some x
@@ -247,7 +207,7 @@ module _ (h : Head) (v : Val) where
   filled_two n s ps qs o x e f =
       let c = some_of (put_all h v ps (replicate n hole)) full o e in
       let d = some_of (put_all h v qs (replicate s hole)) full x f in
-      let size : length c.0 ≡ n = put_length ps (replicate n hole) c.0 c.1.0 ∙ empty_cells n in
+      let size : length c.0 ≡ n = put_length h v ps (replicate n hole) c.0 c.1.0 ∙ empty_cells n in
       let first = put_front ps (replicate n hole) (replicate s hole) c.0 c.1.0 in
       let second = subst (λ (k : ℕ). put_all h v (map (moved k) qs) (c.0 ++ replicate s hole) ≡ Some (c.0 ++ d.0)) size
       (put_behind c.0 qs (replicate s hole) d.0 d.1.0) in

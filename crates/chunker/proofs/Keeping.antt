@@ -1,20 +1,15 @@
 -- Steps in the place of others from a position on: the same octets, no more room, the same steps besides, and no more stores.
-use Rattle.std.proofs.Common.{◌≡◌, ℕ, zero, suc, ◌+◌, ◌-◌, ◌^◌, ◌%◌, ◌≤◌, max, List, [], ◌∷◌, ◌++◌, length, take, drop, replicate, Option, Some, None, nat_le, if◌then◌else◌, ◌&&◌, Bool, true, false, refl, sym, ap, ◌∙◌, subst, arith, append_assoc, append-nil, length-append, length-drop}
-use Rattle.std.proofs.lemmas.Bool.{leb-true}
-use Rattle.std.proofs.lemmas.List.{length-take-le}
+use Rattle.std.proofs.Common.{◌≡◌, ℕ, zero, suc, ◌+◌, ◌-◌, ◌≤◌, max, List, [], ◌∷◌, ◌++◌, length, replicate, Option, Some, None, if◌then◌else◌, Bool, true, false, refl, sym, ap, ◌∙◌, subst, arith, append_assoc, append-nil, length-append}
 use Rattle.mint.specs.Values.{Val, Vals, no_more, val, absent, present}
-use Rattle.wire_def.specs.declared.head.Order.{Order}
-use Rattle.wire_def.specs.declared.head.Order.TheVariants.{Big, Little}
-use Rattle.wire_def.specs.Orders.{in_order}
 use Rattle.wire_def.specs.Scalars.{gap}
-use Rattle.kit_base.specs.Bytes.{written}
 use Rattle.cast_stub.specs.Parts.{on_some}
 use Rattle.cast_stub.specs.Steps.{Step, Room, Pad, Stored, Widened, Copied, Patched, Steps, both, over, if_present}
 use Rattle.cast_stub.specs.Meaning.{patched, wrote, costs, HasRoom}
 use Rattle.cast_stub.proofs.Folding.{wrote-append, costs-append}
 use Rattle.cast_stub.specs.Met.{met, others}
 use Rattle.chunker.proofs.Ending.{place, place-append, Leads}
-use Rattle.chunker.proofs.Filled.{some_of}
+use Rattle.cast_stub.proofs.Filled.{some_of}
+use Rattle.cast_stub.proofs.Patched.{patched_length}
 
 -- what is left of the room behind steps
 abbrev pub spare : ℕ → ℕ → List Step → ℕ
@@ -76,34 +71,6 @@ met-append (Copied os ∷ a) b = met-append a b
 met-append (Patched at sub order ∷ a) b = let e = met-append a b in omega (arith, e)
 
 -- ---- where octets end
-
-length-written : (n : ℕ) (os f : List ℕ) → n + length os ≤ length f → length (written f n os) ≡ length f
-length-written n os f h =
-    length-append (take n f ++ os) (drop (n + length os) f)
-    ∙ (omega (arith, length-append (take n f) os, length-drop (n + length os) f, length-take-le n f (omega arith)))
-
-four : (order : Order) (n : ℕ) → length (in_order order 4 n) ≡ 4
-four Big n = refl
-four Little n = refl
-
-tests_hold : (x y : Bool) → (x && y) ≡ true → (x ≡ true) × (y ≡ true)
-tests_hold true true e = (refl, refl)
-tests_hold true false e = absurd cc
-tests_hold false y e = absurd cc
-
-patched_length : (base at sub : ℕ) (order : Order) (o x : List ℕ) → patched base at sub order o ≡ Some x → length x ≡ length o
-patched_length base at sub order o x = by_test (nat_le base at && nat_le (at + 4) (base + length o)) refl where
-  by_test : (b : Bool) → (nat_le base at && nat_le (at + 4) (base + length o)) ≡ b
-      → (if b then Some (written o (at - base) (in_order order 4 ((base + length o + 2 ^ 32 - sub) % 2 ^ 32))) else None) ≡ Some x
-      → length x ≡ length o
-  by_test true t e =
-      let n = (base + length o + 2 ^ 32 - sub) % 2 ^ 32 in
-      let both = tests_hold (nat_le base at) (nat_le (at + 4) (base + length o)) t in
-      let low = leb-true base at both.0 in
-      let high = leb-true (at + 4) (base + length o) both.1 in
-      let same : written o (at - base) (in_order order 4 n) ≡ x = cc in
-      sym (ap length same) ∙ length-written (at - base) (in_order order 4 n) o (omega (arith, four order n, low, high))
-  by_test false t e = absurd cc
 
 zeros_long : (g : ℕ) → length {A = ℕ} (replicate g 0) ≡ g
 zeros_long zero = refl

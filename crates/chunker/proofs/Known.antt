@@ -1,5 +1,5 @@
 -- What is known of positions: after octets, behind padding, and of two phases, by their remainders.
-use Rattle.std.proofs.Common.{◌≡◌, ℕ, ◌+◌, ◌-◌, ◌*◌, ◌%◌, ◌<◌, Bool, true, false, nat_eq, if◌then◌else◌, ◌&&◌, ◌||◌, refl, sym, ap, ◌∙◌, subst, arith}
+use Rattle.std.proofs.Common.{◌≡◌, ℕ, ◌+◌, ◌-◌, ◌*◌, ◌%◌, ◌<◌, Bool, true, false, nat_eq, if◌then◌else◌, ◌&&◌, refl, sym, ap, ◌∙◌, subst, arith}
 use Rattle.std.proofs.Math.Nat.{mod-mod_of_dvd, mod-add-mod}
 use Rattle.std.proofs.lemmas.Bool.{eqb-true}
 use Rattle.std.proofs.lemmas.Nat.Gcd.{dvd_of_mod-eq-zero}
@@ -8,32 +8,7 @@ use Rattle.cast_stub.specs.Steps.{is_width}
 use Rattle.chunker.specs.declared.phase.Phase.{Phase}
 use Rattle.chunker.specs.Left.{by_fours}
 use Rattle.chunker.specs.Phases.{IsPhase, AtPhase, unknown, modulo, shift, is_known, aligned, agree, meet}
-
--- ---- widths
-
--- a width
-pub data Wide : ℕ → Type 0 where
-  one : Wide 1
-  two : Wide 2
-  four : Wide 4
-  eight : Wide 8
-
-by_tests : (n : ℕ) (a b c d : Bool) → nat_eq n 1 ≡ a → nat_eq n 2 ≡ b → nat_eq n 4 ≡ c → nat_eq n 8 ≡ d → (a || b || c || d) ≡ true
-    → Wide n
-by_tests n true b c d e f g h t = subst Wide (sym (eqb-true n 1 e)) one
-by_tests n false true c d e f g h t = subst Wide (sym (eqb-true n 2 f)) two
-by_tests n false false true d e f g h t = subst Wide (sym (eqb-true n 4 g)) four
-by_tests n false false false true e f g h t = subst Wide (sym (eqb-true n 8 h)) eight
-by_tests n false false false false e f g h t = absurd cc
-
-pub wide_is : (n : ℕ) → is_width n ≡ true → Wide n
-wide_is n e = by_tests n (nat_eq n 1) (nat_eq n 2) (nat_eq n 4) (nat_eq n 8) refl refl refl refl e
-
-pub is_wide : (n : ℕ) → Wide n → is_width n ≡ true
-is_wide _ one = refl
-is_wide _ two = refl
-is_wide _ four = refl
-is_wide _ eight = refl
+use Rattle.cast_stub.proofs.Widths.{Wide, one, two, four, eight, wide_is}
 
 rest_below : (m n : ℕ) → Wide m → n % m < m
 rest_below _ n one = omega arith

@@ -16,12 +16,13 @@ use Rattle.chunker.specs.Phases.{AtPhase, unknown, modulo, shift, is_known}
 use Rattle.chunker.specs.RecvChunked.{moved, zeros, unread, seen_with, closed, chunked, cases_chunked}
 use Rattle.chunker.specs.RecvKept.{after_tests, EndsAs}
 use Rattle.chunker.specs.RecvLeft.{leave, looped, switched, perhaps}
-use Rattle.chunker.proofs.Known.{at_shift, known_gap, behind_gap, wide_is, at_fours, meet_first, meet_second}
+use Rattle.chunker.proofs.Known.{at_shift, known_gap, behind_gap, at_fours, meet_first, meet_second}
 use Rattle.chunker.proofs.RecvEnding.{leads_anywhere, row_need_leads, left, case_left, turn}
 use Rattle.chunker.proofs.RecvFaring.{AllFare, Somewhere, stands_to, ends_then, ends_some, needed_fares, skipped_fares, desc_fares, row_fares, wide_fares, within_fares, each_fares, arm_fares, present_fares, skipped_leads, within_leads, wide_leads, each_leads, arm_leads, present_leads}
 use Rattle.chunker.proofs.RecvMoved.{Same, all_moved}
 use Rattle.chunker.proofs.RecvOpening.{one_test, Opens, opens_none, behind, before, ended, lacks, opens_need, opens_pass, opens_gets, refused_gets, unread_refuses, zeros_got}
 use Rattle.chunker.proofs.RecvStuck.{after_need, short, refused, stuck}
+use Rattle.cast_stub.proofs.Widths.{wide_is}
 
 row_need_fares : (P : ℕ → Type 0) (p : List ℕ) (u e : ℕ)
     → AllFare P (λ d s. if_some (part p d) (λ x. if_some (length_in x) (λ n. needed (n * u + e) d s)))

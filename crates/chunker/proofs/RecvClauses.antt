@@ -17,11 +17,12 @@ use Rattle.chunker.specs.Phases.{IsPhase, AtPhase, unknown}
 use Rattle.chunker.specs.RecvChunked.{chunked}
 use Rattle.chunker.specs.RecvContract.{IsRecvChunked}
 use Rattle.chunker.specs.RecvKept.{after_tests, EndsAs, ReceivesAsAt, IsSoundAsAt, skeleton, KeepsOtherRecvs, AreTestsFew, EachRecv, RunsTestFew}
-use Rattle.chunker.proofs.Known.{one, wide_is, anywhere}
+use Rattle.chunker.proofs.Known.{anywhere}
 use Rattle.chunker.proofs.RecvChunking.{fares}
 use Rattle.chunker.proofs.RecvFaring.{AllFare, Somewhere, ends_settled}
 use Rattle.chunker.proofs.RecvShortness.{few_fresh}
 use Rattle.chunker.proofs.RecvSkeleton.{bare}
+use Rattle.cast_stub.proofs.Widths.{one, wide_is}
 
 abbrev chunked_sub : List RecvOp → Recv
 chunked_sub s = chunked unknown 0 [] 0 (code_seen s)

@@ -10,8 +10,8 @@ use Rattle.chunker.specs.Phases.{unknown, modulo, shift, is_known, aligned}
 use Rattle.chunker.specs.RecvChunked.{moved, zeros, unread, seen_with, taken, closed, chunked, cases_chunked}
 use Rattle.chunker.specs.RecvKept.{AreFewAfter, FewInCases, AreTestsFew}
 use Rattle.chunker.specs.RecvLeft.{leave, cases_leave, looped, switched, perhaps}
-use Rattle.chunker.proofs.Known.{one, wide_is}
 use Rattle.chunker.proofs.Shortness.{Allows, allowed, six, allows_known, two_more, Known, meet_known, aligned_known, EndKnown, meet_end_known}
+use Rattle.cast_stub.proofs.Widths.{one, wide_is}
 
 few_taken : (k n : ℕ) (gs : List Get) (r : Recv) → AreFewAfter 7 k r → AreFewAfter 7 k (taken n gs r)
 few_taken k n (g ∷ gs) r h = h

@@ -9,7 +9,7 @@ use Rattle.chunker.specs.Chunked.{moved, consts_joined, zeros, chunk_of, closed,
 use Rattle.chunker.specs.Left.{meet_end, or_unknown, by_fours, leave, cases_leave, looped, switched, perhaps}
 use Rattle.chunker.specs.Phases.{unknown, modulo, shift, is_known, aligned, meet}
 use Rattle.cast_stub.specs.Skeletons.{IsShortAfter, AreShort, IsRunShort}
-use Rattle.chunker.proofs.Known.{Wide, one, two, four, eight, wide_is}
+use Rattle.cast_stub.proofs.Widths.{Wide, one, two, four, eight, wide_is}
 
 -- how many chunks and aligns may stand before a place of which so much is known
 pub data Allows : ℕ → ℕ → Type 0 where

@@ -18,10 +18,10 @@ use Rattle.cast_stub.specs.Fill.{Callees, fill, fill_row, settled_number, runs}
 use Rattle.cast_stub.specs.RecvBlock.{Recv, need, pass, finish}
 use Rattle.cast_stub.specs.Runs.{Place, Run, gives, refuses, strays, Going, then_run, map_run, if_passed}
 use Rattle.copy_inline.specs.RecvRows.{EndsAlike}
-use Rattle.copy_inline.proofs.RowWords.{IsWidth, one, two, four, eight}
+use Rattle.cast_stub.proofs.Widths.{Wide, one, two, four, eight}
 use Rattle.copy_inline.proofs.RecvTimed.{timed, map_alike}
 
-width_there : (w : ℕ) → IsWidth w → (x : Width) × (width_in w ≡ Some x)
+width_there : (w : ℕ) → Wide w → (x : Width) × (width_in w ≡ Some x)
 width_there _ one = (w8, refl)
 width_there _ two = (w16, refl)
 width_there _ four = (w32, refl)
@@ -190,6 +190,6 @@ module _ (c : Callees) (w : ℕ) (o : Order) (a : Array) (x : Width) (is : width
       subst (EndsAlike (fill_row (fill c (number_turn w o)) a n s)) (sym (block_is n d (timed m s)))
       (map_alike filled (runs turn n s) (whole n s (raised m 1)) (turns_alike n s (raised m 1)))
 
-pub line_alike : (c : Callees) (w : ℕ) (o : Order) (a : Array) → IsWidth w → (n : ℕ) (d : Draft) (s : Place) (m : ℕ)
+pub line_alike : (c : Callees) (w : ℕ) (o : Order) (a : Array) → Wide w → (n : ℕ) (d : Draft) (s : Place) (m : ℕ)
     → EndsAlike (fill_row (fill c (number_turn w o)) a n s) (then_run (needed (n * w + 0) d (timed m s)) (λ y t. fill_block o w a n t))
 line_alike c w o a wide n d s m = let x = width_there w wide in loop_alike c w o a x.0 x.1 n d s m

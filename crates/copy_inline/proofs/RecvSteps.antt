@@ -33,7 +33,7 @@ use Rattle.copy_inline.specs.RecvRowed.{row_or_loop, loop_rowed, rowed, cases_ro
 use Rattle.copy_inline.specs.RecvRows.{EndsAlike}
 use Rattle.copy_inline.proofs.RowSteps.{maybe_of, choice_of}
 use Rattle.copy_inline.proofs.Sorted.{block_layout, wide_layout, element_wide}
-use Rattle.copy_inline.proofs.RowWords.{IsWidth}
+use Rattle.cast_stub.proofs.Widths.{Wide}
 use Rattle.copy_inline.proofs.RecvLine.{number_turn, line_alike}
 use Rattle.copy_inline.proofs.RecvTimed.{timed, Pairs, AreEven, then_alike, map_alike, needed_even, passed_even, skipped_even, desc_even, within_even, all_even, settled_alike, number_alike, runs_alike}
 use Rattle.copy_inline.proofs.RecvTyped.{IsDraft, AreDrafts, fresh_is, Gives, map_gives, needed_gives, passed_gives, skipped_gives, within_keeps, desc_keeps, all_keep}
@@ -143,7 +143,7 @@ each_given f t _ s = tt
 abbrev tested : Filler → ℕ → Filler
 tested into w x s = then_run (if_some (length_in x) (λ n. needed (n * w + 0) x s)) (λ y t. into x t)
 
-module _ (c : Callees) (w : ℕ) (o : Order) (a : Array) (wide : IsWidth w) where
+module _ (c : Callees) (w : ℕ) (o : Order) (a : Array) (wide : Wide w) where
   abbrev Loop : Filler
   Loop = fill_each (fill c (number_turn w o))
 

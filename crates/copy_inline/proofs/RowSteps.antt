@@ -31,7 +31,8 @@ use Rattle.copy_inline.specs.declared.sorts.Sort.TheVariants as sort
 use Rattle.copy_inline.specs.Sorts.{sort_of, is_image}
 use Rattle.copy_inline.specs.Ready.{OfType, IsTurn, LoopIs, IsReady, CasesReady}
 use Rattle.copy_inline.specs.Rowed.{row_or_loop, loop_rowed, by_type, rowed, cases_rowed}
-use Rattle.copy_inline.proofs.RowWords.{four, pieces, stores, together, loop_stores, wide_pieces, image_pieces, swapped_pieces, one_octet}
+use Rattle.cast_stub.proofs.Widths.{four}
+use Rattle.copy_inline.proofs.RowWords.{pieces, stores, together, loop_stores, wide_pieces, image_pieces, swapped_pieces, one_octet}
 use Rattle.copy_inline.proofs.Sorted.{block_layout, wide_layout, image_width, array_ranged}
 use Rattle.copy_inline.proofs.Joined.{AreJoined, joined_both, joined_on, joined_row, joined_copied, joined_widened}
 

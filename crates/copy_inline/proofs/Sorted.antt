@@ -18,21 +18,21 @@ use Rattle.wire_def.proofs.Words.{IsOwn, is8, is16, is32, is64, own_of}
 use Rattle.cast_stub.specs.Layouts.{order_of, scalar_width, element_width, is_looped, layout_of}
 use Rattle.copy_inline.specs.declared.sorts.Sort.TheVariants as sort
 use Rattle.copy_inline.specs.Sorts.{sort_of}
-use Rattle.copy_inline.proofs.RowWords.{IsWidth, one, two, four, eight}
+use Rattle.cast_stub.proofs.Widths.{Wide, one, two, four, eight}
 
 -- ---- widths
 
-own_wide : (w : Width) → IsOwn w → IsWidth (byte_len w)
+own_wide : (w : Width) → IsOwn w → Wide (byte_len w)
 own_wide _ is8 = one
 own_wide _ is16 = two
 own_wide _ is32 = four
 own_wide _ is64 = eight
 
-either_wide : (q : Bool) (n : ℕ) → IsWidth n → IsWidth (if q then 1 else n)
+either_wide : (q : Bool) (n : ℕ) → Wide n → Wide (if q then 1 else n)
 either_wide true n h = one
 either_wide false n h = h
 
-pub element_wide : (e : Encoding) (a : Array) → IsWidth (element_width e a)
+pub element_wide : (e : Encoding) (a : Array) → Wide (element_width e a)
 element_wide e a = either_wide (is_octets a) (scalar_width e (number (kind_of a)))
     (own_wide (width_of e (number (kind_of a))) (own_of e (number (kind_of a))))
 
@@ -138,10 +138,10 @@ wide_layout e a is =
       of_four (inl same) other = absurd (let here : true ≡ false = sym (eq-eqb (element_width e a) (width (kind_of a)) same) ∙ other in cc)
       of_four (inr same) other = same
 
-pub image_width : (a : Array) → IsWidth (width (kind_of a))
+pub image_width : (a : Array) → Wide (width (kind_of a))
 image_width a = by (kind_of a) where
-  by : (k : Kind) → IsWidth (width k)
-  by k = subst IsWidth (cdr_width k) (own_wide (own_width (number k)) (own_of CdrBig (number k)))
+  by : (k : Kind) → Wide (width k)
+  by k = subst Wide (cdr_width k) (own_wide (own_width (number k)) (own_of CdrBig (number k)))
 
 -- ---- the numbers of an array
 

@@ -1,34 +1,11 @@
--- Operations without a body send nothing after their heads, by mutual induction on types and fields.
-use Rattle.std.proofs.Common.{◌≡◌, ℕ, ◌+◌, List, [], ◌∷◌, length, Bool, true, false, ◌&&◌, not, refl}
-use Rattle.mint.specs.Types.{Ty, void_type, scalar_type, array_type, group_type, items_type, choice_type, maybe_type, Tys, no_fields, field}
-use Rattle.mint.specs.Values.{Val, group, Vals, no_more, val}
+-- Operations without a body send nothing after their heads.
+use Rattle.std.proofs.Common.{◌≡◌, ℕ, [], Bool, true, false, not, refl}
+use Rattle.mint.specs.Types.{Ty}
+use Rattle.mint.specs.Values.{Val}
 use Rattle.wire_def.specs.declared.encoding.Encoding.{Encoding}
-use Rattle.wire_def.specs.Hollow.{is_hollow, are_hollow}
-use Rattle.wire_def.specs.Send.{followed, send, send_fields}
-
-both : (a b : Bool) → a && b ≡ true → (a ≡ true) × (b ≡ true)
-both true b h = (refl, h)
-both false b h = absurd cc
-
--- nothing, and then nothing
-nothing_after : (p : ℕ) (o : List ℕ) (more : ℕ → List ℕ) → o ≡ [] → ((q : ℕ) → more q ≡ []) → followed p o more ≡ []
-nothing_after p [] more h j = j (p + 0)
-nothing_after p (b ∷ bs) more h j = absurd cc
-
-mutual
-  unfolding send
-
-  empty : (e : Encoding) (t : Ty) → is_hollow t ≡ true → (p : ℕ) (v : Val) → send e t p v ≡ []
-  empty e void_type h p v = refl
-  empty e (group_type ts) h p (group vs) = fields_empty e ts h p vs
-  empty e (group_type ts) h p _ = refl
-  empty e _ h p v = absurd cc
-
-  fields_empty : (e : Encoding) (ts : Tys) → are_hollow ts ≡ true → (p : ℕ) (vs : Vals) → send_fields e ts p vs ≡ []
-  fields_empty e (field t ts) h p (val v vs) =
-      let parts = both (is_hollow t) (are_hollow ts) h in
-      nothing_after p (send e t p v) (λ q. send_fields e ts q vs) (empty e t parts.0 p v) (λ q. fields_empty e ts parts.1 q vs)
-  fields_empty e _ h p _ = refl
+use Rattle.wire_def.specs.Hollow.{is_hollow}
+use Rattle.wire_def.specs.Send.{send}
+use Rattle.wire_def.proofs.Hollow.{empty}
 
 negated : (x : Bool) → not x ≡ false → x ≡ true
 negated true h = refl

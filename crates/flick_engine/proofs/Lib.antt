@@ -10,7 +10,7 @@ pub mod Deciding
 pub mod Existing
 -- * What a message is, by what its body was read as
 pub mod Answering
--- Operations without a body send nothing after their heads, by mutual induction on types and fields
+-- Operations without a body send nothing after their heads
 pub mod Bodies
 -- * What is sent is what is received
 pub mod Back

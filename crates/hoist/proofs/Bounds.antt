@@ -16,7 +16,7 @@ use Rattle.cast_stub.specs.Block.{Block, stop, ensure, ensure_row, align, chunk,
 use Rattle.cast_stub.specs.Steps.{Step, Room, Pad, Stored, Widened, Copied, Patched, Steps, both, over, if_present, Calls, steps, case_steps, chunk_steps, align_steps, is_width}
 use Rattle.hoist.specs.Bound.{most, plus, times, greater, bound, cases_bound, appended, Within, BoundsHold}
 use Rattle.cast_stub.specs.PartTypes.{element_at, present_at, arms_at}
-use Rattle.hoist.proofs.Filled.{length-filled}
+use Rattle.cast_stub.proofs.Filled.{length-filled}
 use Rattle.hoist.proofs.TypedParts.{AreElements, each-part, some-part, switch-part}
 
 pub no_bound : (x : Steps) → Within x None

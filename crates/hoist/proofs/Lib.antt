@@ -1,7 +1,5 @@
 -- The proofs, each after those that it uses; * marks those that the proofs of functions use.
 
--- A chunk has as many octets as it says, by induction on its puts and cells
-pub mod Filled
 -- The parts of a value of a type are of the types of the parts, by induction on the path to the part
 pub mod TypedParts
 -- * A block appends at most its bound, by induction on the block

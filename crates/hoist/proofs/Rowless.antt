@@ -1,5 +1,5 @@
 -- Code without row operations stays without them, by induction on the code.
-use Rattle.std.proofs.Common.{◌≡◌, ℕ, ◌+◌, List, [], length, Option, None, Some, sym, subst}
+use Rattle.std.proofs.Common.{◌≡◌, ℕ, ◌+◌, List, [], Some, sym, subst}
 use Rattle.mint.specs.Types.{Ty}
 use Rattle.cast_stub.specs.declared.send.SendOp.{SendOp}
 use Rattle.cast_stub.specs.declared.send.SendCode.{SendCode}
@@ -11,48 +11,29 @@ use Rattle.cast_stub.specs.Kept.{unensured, cases_unensured, ChangesOnlyEnsures}
 use Rattle.cast_stub.specs.Rowless.{IsRowless, AreRowless, HasNoRow}
 use Rattle.cast_stub.proofs.Followed.{mapped, append_rowless, through_rowless}
 use Rattle.hoist.specs.Pass.{IsGiven}
+use Rattle.cast_stub.proofs.Trees.{beside}
 
+-- ensures are no row operations
 mutual
-  unensured_rowless : (b : Block) → IsRowless b → IsRowless (unensured b)
-  unensured_rowless stop h = tt
-  unensured_rowless (ensure n b) h = unensured_rowless b h
-  unensured_rowless (ensure_row p u e b) h = unensured_rowless b h
-  unensured_rowless (align a b) h = unensured_rowless b h
-  unensured_rowless (chunk s ps b) h = unensured_rowless b h
-  unensured_rowless (row_copy p b) h = absurd h
-  unensured_rowless (row_swap p b) h = absurd h
-  unensured_rowless (row_wide p o b) h = absurd h
-  unensured_rowless (each p a b) h = (unensured_rowless a h.0, unensured_rowless b h.1)
-  unensured_rowless (switch p cs b) h = (unensured_cases cs h.0, unensured_rowless b h.1)
-  unensured_rowless (if_there p a b) h = (unensured_rowless a h.0, unensured_rowless b h.1)
-  unensured_rowless (call k p b) h = unensured_rowless b h
-  unensured_rowless (patch a s o b) h = unensured_rowless b h
+  rowless : (b : Block) → (IsRowless b → IsRowless (unensured b)) × (IsRowless (unensured b) → IsRowless b)
+  rowless stop = (λ h. h, λ h. h)
+  rowless (ensure n r) = rowless r
+  rowless (ensure_row p u e r) = rowless r
+  rowless (align a r) = rowless r
+  rowless (chunk s ps r) = rowless r
+  rowless (row_copy p r) = (λ h. h, λ h. h)
+  rowless (row_swap p r) = (λ h. h, λ h. h)
+  rowless (row_wide p o r) = (λ h. h, λ h. h)
+  rowless (each p b r) = beside (rowless b) (rowless r)
+  rowless (switch p cs r) = beside (cases_rowless cs) (rowless r)
+  rowless (if_there p b r) = beside (rowless b) (rowless r)
+  rowless (call k p r) = rowless r
+  rowless (patch a s o r) = rowless r
 
-  unensured_cases : (cs : Cases) → AreRowless cs → AreRowless (cases_unensured cs)
-  unensured_cases no_default h = tt
-  unensured_cases (default b) h = unensured_rowless b h
-  unensured_cases (case m b cs) h = (unensured_rowless b h.0, unensured_cases cs h.1)
-
-mutual
-  ensured_rowless : (b : Block) → IsRowless (unensured b) → IsRowless b
-  ensured_rowless stop h = tt
-  ensured_rowless (ensure n b) h = ensured_rowless b h
-  ensured_rowless (ensure_row p u e b) h = ensured_rowless b h
-  ensured_rowless (align a b) h = ensured_rowless b h
-  ensured_rowless (chunk s ps b) h = ensured_rowless b h
-  ensured_rowless (row_copy p b) h = absurd h
-  ensured_rowless (row_swap p b) h = absurd h
-  ensured_rowless (row_wide p o b) h = absurd h
-  ensured_rowless (each p a b) h = (ensured_rowless a h.0, ensured_rowless b h.1)
-  ensured_rowless (switch p cs b) h = (ensured_cases cs h.0, ensured_rowless b h.1)
-  ensured_rowless (if_there p a b) h = (ensured_rowless a h.0, ensured_rowless b h.1)
-  ensured_rowless (call k p b) h = ensured_rowless b h
-  ensured_rowless (patch a s o b) h = ensured_rowless b h
-
-  ensured_cases : (cs : Cases) → AreRowless (cases_unensured cs) → AreRowless cs
-  ensured_cases no_default h = tt
-  ensured_cases (default b) h = ensured_rowless b h
-  ensured_cases (case m b cs) h = (ensured_rowless b h.0, ensured_cases cs h.1)
+  cases_rowless : (cs : Cases) → (AreRowless cs → AreRowless (cases_unensured cs)) × (AreRowless (cases_unensured cs) → AreRowless cs)
+  cases_rowless no_default = (λ h. h, λ h. h)
+  cases_rowless (default b) = rowless b
+  cases_rowless (case m b cs) = beside (rowless b) (cases_rowless cs)
 
 -- ---- code between a lead and a patch
 
@@ -81,6 +62,6 @@ pub no_row : (t : Ty) (given code : SendCode) → IsGiven t given → ChangesOnl
 no_row t given code is adds none =
     let own = framed_rowless is.1 t (code_seen given.ops) is.2 in
     record {
-      ops = ensured_rowless (code_seen code.ops) (subst IsRowless (sym adds) (unensured_rowless (code_seen given.ops) own));
+      ops = (rowless (code_seen code.ops)).1 (subst IsRowless (sym adds) ((rowless (code_seen given.ops)).0 own));
       subs = λ k b e. nothing_there k b (subst (λ (l : List (List SendOp)). sub_at l k ≡ Some b) none e);
     }

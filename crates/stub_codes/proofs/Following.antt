@@ -15,7 +15,7 @@ use Rattle.cast_stub.specs.Parts.{on_some}
 use Rattle.cast_stub.specs.Puts.{filled}
 use Rattle.cast_stub.specs.Steps.{Step, Room, Pad, Stored, Widened, Copied, Patched, Steps, Calls, both, chunk_steps, steps}
 use Rattle.cast_stub.proofs.Followed.{mapped}
-use Rattle.hoist.proofs.Filled.{length-filled}
+use Rattle.cast_stub.proofs.Filled.{length-filled}
 use Rattle.stub_lower.specs.Leads.{chunk_puts}
 
 pub some_same : {A : Type 0} (a b : A) → Some a ≡ Some b → a ≡ b

@@ -34,6 +34,7 @@ use Rattle.stub_codes.specs.Messages.{framed}
 use Rattle.stub_codes.specs.Sending.{AreHeads, SendsAfter}
 use Rattle.stub_codes.specs.Within.{HasCostWithin}
 use Rattle.stub_codes.proofs.Following.{some_same}
+use Rattle.cast_stub.proofs.Trees.{beside}
 
 -- ---- steps and what is made of them
 
@@ -76,53 +77,35 @@ same_rows a b e = sym (rows_told b) ∙ ap (λ (l : List Step). (costs l).rows) 
 
 -- ---- calls and codes to call
 
+-- the operations that are kept have a call exactly where the code has
 mutual
-  bare_free : (b : Block) → HasNoCall b → HasNoCall (skeleton b)
-  bare_free stop h = tt
-  bare_free (ensure n r) h = bare_free r h
-  bare_free (ensure_row p u e r) h = bare_free r h
-  bare_free (align a r) h = bare_free r h
-  bare_free (chunk s ps r) h = bare_free r h
-  bare_free (row_copy p r) h = bare_free r h
-  bare_free (row_swap p r) h = bare_free r h
-  bare_free (row_wide p o r) h = bare_free r h
-  bare_free (each p b r) h = (bare_free b h.0, bare_free r h.1)
-  bare_free (switch p cs r) h = (cases_free cs h.0, bare_free r h.1)
-  bare_free (if_there p b r) h = (bare_free b h.0, bare_free r h.1)
-  bare_free (call k p r) h = absurd h
-  bare_free (patch a s o r) h = bare_free r h
+  free : (b : Block) → (HasNoCall b → HasNoCall (skeleton b)) × (HasNoCall (skeleton b) → HasNoCall b)
+  free stop = (λ h. h, λ h. h)
+  free (ensure n r) = free r
+  free (ensure_row p u e r) = free r
+  free (align a r) = free r
+  free (chunk s ps r) = free r
+  free (row_copy p r) = free r
+  free (row_swap p r) = free r
+  free (row_wide p o r) = free r
+  free (each p b r) = beside (free b) (free r)
+  free (switch p cs r) = beside (cases_free cs) (free r)
+  free (if_there p b r) = beside (free b) (free r)
+  free (call k p r) = (λ h. h, λ h. h)
+  free (patch a s o r) = free r
 
-  cases_free : (cs : Cases) → CasesHaveNoCall cs → CasesHaveNoCall (cases_skeleton cs)
-  cases_free no_default h = tt
-  cases_free (default b) h = bare_free b h
-  cases_free (case m b cs) h = (bare_free b h.0, cases_free cs h.1)
-
-mutual
-  full_free : (b : Block) → HasNoCall (skeleton b) → HasNoCall b
-  full_free stop h = tt
-  full_free (ensure n r) h = full_free r h
-  full_free (ensure_row p u e r) h = full_free r h
-  full_free (align a r) h = full_free r h
-  full_free (chunk s ps r) h = full_free r h
-  full_free (row_copy p r) h = full_free r h
-  full_free (row_swap p r) h = full_free r h
-  full_free (row_wide p o r) h = full_free r h
-  full_free (each p b r) h = (full_free b h.0, full_free r h.1)
-  full_free (switch p cs r) h = (full_cases cs h.0, full_free r h.1)
-  full_free (if_there p b r) h = (full_free b h.0, full_free r h.1)
-  full_free (call k p r) h = absurd h
-  full_free (patch a s o r) h = full_free r h
-
-  full_cases : (cs : Cases) → CasesHaveNoCall (cases_skeleton cs) → CasesHaveNoCall cs
-  full_cases no_default h = tt
-  full_cases (default b) h = full_free b h
-  full_cases (case m b cs) h = (full_free b h.0, full_cases cs h.1)
+  cases_free : (cs : Cases)
+      → (CasesHaveNoCall cs → CasesHaveNoCall (cases_skeleton cs)) × (CasesHaveNoCall (cases_skeleton cs) → CasesHaveNoCall cs)
+  cases_free no_default = (λ h. h, λ h. h)
+  cases_free (default b) = free b
+  cases_free (case m b cs) = beside (free b) (cases_free cs)
 
 -- no call where another code of the same operations has none
 same_free : (a b : Block) → skeleton b ≡ skeleton a → HasNoCall a → HasNoCall b
-same_free a b e h = full_free b (subst HasNoCall (sym e) (bare_free a h))
+same_free a b e h = (free b).1 (subst HasNoCall (sym e) ((free a).0 h))
 
-none_left : (f : List SendOp → Block) (xs ys : List (List SendOp)) → map f xs ≡ map f ys → ys ≡ [] → xs ≡ []
+-- as many codes, none
+pub none_left : {A B : Type 0} (f : A → B) (xs ys : List A) → map f xs ≡ map f ys → ys ≡ [] → xs ≡ []
 none_left f [] ys e none = refl
 none_left f (x ∷ xs) [] e none = absurd cc
 none_left f (x ∷ xs) (y ∷ ys) e none = absurd cc

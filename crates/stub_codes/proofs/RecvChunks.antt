@@ -1,5 +1,5 @@
 -- Chunked code receives where the given code does.
-use Rattle.std.proofs.Common.{◌≡◌, ℕ, List, [], ◌∷◌, map, Result, Ok, Err, IfOk, refl, sym, subst}
+use Rattle.std.proofs.Common.{◌≡◌, ℕ, List, [], Result, Ok, Err, IfOk, sym, subst}
 use Rattle.kit_base.specs.declared.errors.NoMemory.{NoMemory}
 use Rattle.mint.specs.Types.{Ty}
 use Rattle.wire_def.specs.declared.encoding.Encoding.{Encoding}
@@ -17,59 +17,35 @@ use Rattle.copy_inline.specs.RecvCallFree.{HasNoCall, CasesHaveNoCall}
 use Rattle.copy_inline.specs.RecvRows as rows
 use Rattle.stub_codes.specs.Receiving.{Receives}
 use Rattle.stub_codes.proofs.RecvTested.{tests_few}
+use Rattle.stub_codes.proofs.Kept.{none_left}
+use Rattle.cast_stub.proofs.Trees.{beside}
 
+-- code without needs, skips and takes has a call exactly where the whole has
 mutual
-  -- code without needs, skips and takes has the calls that the whole has
-  bare_free : (b : Recv) → HasNoCall b → HasNoCall (skeleton b)
-  bare_free finish h = tt
-  bare_free (need n r) h = bare_free r h
-  bare_free (need_row p u e r) h = bare_free r h
-  bare_free (skip_any a r) h = bare_free r h
-  bare_free (skip_zero a r) h = bare_free r h
-  bare_free (pass n gs r) h = bare_free r h
-  bare_free (desc p name size mul r) h = bare_free r h
-  bare_free (row_block p o r) h = bare_free r h
-  bare_free (row_wide p o r) h = bare_free r h
-  bare_free (each p b r) h = (bare_free b h.0, bare_free r h.1)
-  bare_free (switch p cs r) h = (cases_bare_free cs h.0, bare_free r h.1)
-  bare_free (if_there p b r) h = (bare_free b h.0, bare_free r h.1)
-  bare_free (call k p r) h = h
+  free : (b : Recv) → (HasNoCall b → HasNoCall (skeleton b)) × (HasNoCall (skeleton b) → HasNoCall b)
+  free finish = (λ h. h, λ h. h)
+  free (need n r) = free r
+  free (need_row p u e r) = free r
+  free (skip_any a r) = free r
+  free (skip_zero a r) = free r
+  free (pass n gs r) = free r
+  free (desc p name size mul r) = free r
+  free (row_block p o r) = free r
+  free (row_wide p o r) = free r
+  free (each p b r) = beside (free b) (free r)
+  free (switch p cs r) = beside (cases_free cs) (free r)
+  free (if_there p b r) = beside (free b) (free r)
+  free (call k p r) = (λ h. h, λ h. h)
 
-  cases_bare_free : (cs : Cases) → CasesHaveNoCall cs → CasesHaveNoCall (cases_skeleton cs)
-  cases_bare_free no_default h = tt
-  cases_bare_free (default b) h = bare_free b h
-  cases_bare_free (case n b cs) h = (bare_free b h.0, cases_bare_free cs h.1)
-
-mutual
-  free_bare : (b : Recv) → HasNoCall (skeleton b) → HasNoCall b
-  free_bare finish h = tt
-  free_bare (need n r) h = free_bare r h
-  free_bare (need_row p u e r) h = free_bare r h
-  free_bare (skip_any a r) h = free_bare r h
-  free_bare (skip_zero a r) h = free_bare r h
-  free_bare (pass n gs r) h = free_bare r h
-  free_bare (desc p name size mul r) h = free_bare r h
-  free_bare (row_block p o r) h = free_bare r h
-  free_bare (row_wide p o r) h = free_bare r h
-  free_bare (each p b r) h = (free_bare b h.0, free_bare r h.1)
-  free_bare (switch p cs r) h = (cases_free_bare cs h.0, free_bare r h.1)
-  free_bare (if_there p b r) h = (free_bare b h.0, free_bare r h.1)
-  free_bare (call k p r) h = h
-
-  cases_free_bare : (cs : Cases) → CasesHaveNoCall (cases_skeleton cs) → CasesHaveNoCall cs
-  cases_free_bare no_default h = tt
-  cases_free_bare (default b) h = free_bare b h
-  cases_free_bare (case n b cs) h = (free_bare b h.0, cases_free_bare cs h.1)
+  cases_free : (cs : Cases)
+      → (CasesHaveNoCall cs → CasesHaveNoCall (cases_skeleton cs)) × (CasesHaveNoCall (cases_skeleton cs) → CasesHaveNoCall cs)
+  cases_free no_default = (λ h. h, λ h. h)
+  cases_free (default b) = free b
+  cases_free (case m b cs) = beside (free b) (cases_free cs)
 
 -- code whose other operations are those of code without calls has none
 free_as : (a b : Recv) → skeleton a ≡ skeleton b → HasNoCall b → HasNoCall a
-free_as a b e h = free_bare a (subst HasNoCall (sym e) (bare_free b h))
-
--- as many codes, none
-none_as : {A : Type 0} (f : List RecvOp → A) (xs ys : List (List RecvOp)) → map f xs ≡ map f ys → ys ≡ [] → xs ≡ []
-none_as f [] ys e none = refl
-none_as f (x ∷ xs) [] e none = absurd cc
-none_as f (x ∷ xs) (y ∷ ys) e none = absurd cc
+free_as a b e h = (free a).1 (subst HasNoCall (sym e) ((free b).0 h))
 
 pub receives_chunked : (e : Encoding) (t : Ty) (ph : Phase) (below : ℕ) (flat rowed : RecvCode) (r : Result RecvCode NoMemory)
     → TracesBy (IsTurned (layout_of e)) no_subs t below [] (code_seen flat.ops) → rows.IsRowed e t flat rowed
@@ -84,7 +60,7 @@ receives_chunked e t ph below flat rowed (Ok code) goes is_rowed is_sound free n
     record {
       sound = sound;
       calls = calls;
-      subs = none_as (λ (s : List RecvOp). skeleton (code_seen s)) code.subs rowed.subs keeps.subs none;
+      subs = none_left (λ (s : List RecvOp). skeleton (code_seen s)) code.subs rowed.subs keeps.subs none;
       few = tests_few e t below flat rowed code goes is_rowed keeps few calls sound;
     }
 receives_chunked e t ph below flat rowed (Err x) goes is_rowed is_sound free none within all stays keeps few = tt

@@ -25,7 +25,7 @@ use Rattle.stub_flat.proofs.PartsTyped.{IsAt, IsOfNode, IsPart, node_typed, part
 use Rattle.stub_flat.proofs.Sets.{or_first, or_second}
 use Rattle.stub_cover.specs.Rooms.{Rooms, least, on, reached, raised, set, took, padded}
 use Rattle.stub_cover.specs.Covers.{is_plain, looped, Credit, unit_of, run_row, run, run_ways}
-use Rattle.stub_cover.proofs.Filled.{length-filled}
+use Rattle.cast_stub.proofs.Filled.{length-filled}
 use Rattle.stub_cover.proofs.Leading.{Anywhere, Reaches, reaches_some, reaches_weaker, reaches_both, reaches_on_some, reaches_present}
 use Rattle.stub_cover.proofs.Going.{Goes, begins, goes_round, goes_moved, goes_aligned}
 use Rattle.stub_cover.proofs.Rooms.{some_same, some_of, mapped_of, tested_of, Holds, within_less, within_there, least_holds_first, least_holds_second, raised_holds, set_holds, on_holds, took_holds, padded_holds}

@@ -3,8 +3,8 @@ use Rattle.std.proofs.Common.{◌≡◌, ◌⊎◌, inl, inr, ℕ, zero, suc, �
 use Rattle.wire_def.specs.Scalars.{gap}
 use Rattle.cast_stub.specs.Steps.{is_width}
 use Rattle.stub_flat.specs.Residues.{Residues, moved, comes, aligned, closed}
-use Rattle.stub_flat.proofs.Octets.{wide_is}
 use Rattle.stub_flat.proofs.Sets.{or_first, or_second, closed_has, closed_within, gap_turns}
+use Rattle.cast_stub.proofs.Widths.{wide_is}
 
 -- ---- tests
 

@@ -1,7 +1,5 @@
 -- The proofs, each after those that it uses; * marks those that the proofs of functions use.
 
--- A chunk has as many octets as it says, by induction on its puts and cells
-pub mod Filled
 -- Steps that have the room they need, and what holds behind them, by induction on the steps
 pub mod Leading
 -- Ways of residues from a position to another: over octets, over zeros, and within a closed set

@@ -1,10 +1,8 @@
 -- A block appends what its items append, from each position whose residue they were made for, by induction on the block.
-use Rattle.std.proofs.Common.{◌≡◌, ℕ, zero, suc, ◌+◌, ◌-◌, ◌*◌, ◌%◌, ◌≤◌, ◌^◌, ℤ, List, [], ◌∷◌, ◌++◌, length, replicate, take, drop, Option, None, Some, option_map, Bool, true, false, ◌&&◌, if◌then◌else◌, nat_eq, nat_le, is_some, IsTrue, refl, sym, ap, subst, ◌∙◌, arith, length-append}
+use Rattle.std.proofs.Common.{◌≡◌, ℕ, zero, suc, ◌+◌, ◌-◌, ◌*◌, ◌%◌, ℤ, List, [], ◌∷◌, ◌++◌, length, replicate, Option, None, Some, option_map, Bool, true, false, if◌then◌else◌, nat_eq, is_some, IsTrue, refl, sym, ap, subst, ◌∙◌, arith}
 use Rattle.std.specs.List.{AllByRecursion, list_all}
 use Rattle.std.specs.Ordering.{int_eq}
-use Rattle.std.proofs.lemmas.Bool.{eqb-true, leb-true}
-use Rattle.std.proofs.lemmas.List.{length-take-le, length-drop}
-use Rattle.kit_base.specs.Bytes.{written}
+use Rattle.std.proofs.lemmas.Bool.{eqb-true}
 use Rattle.mint.specs.declared.kind.Kind.{Kind}
 use Rattle.mint.specs.declared.node.Node.{Node}
 use Rattle.mint.specs.Kinds.{in_range}
@@ -15,7 +13,6 @@ use Rattle.mint.specs.Values.{Val, void, num as num_val, row, group, items as it
 use Rattle.wire_def.specs.declared.head.Head.{Head}
 use Rattle.wire_def.specs.declared.head.Order.{Order}
 use Rattle.wire_def.specs.declared.head.Order.TheVariants.{Big, Little}
-use Rattle.wire_def.specs.Orders.{in_order}
 use Rattle.wire_def.specs.Scalars.{gap}
 use Rattle.cast_stub.specs.Block.{Block, stop, ensure, ensure_row, align, chunk, row_copy, row_swap, row_wide, each, switch, if_there, call, patch, Cases, no_default, default, case}
 use Rattle.cast_stub.specs.Parts.{on_some, at, elements_in, length_in}
@@ -29,13 +26,15 @@ use Rattle.stub_flat.specs.Items.{num, Cell, fixed, Items, done, zeros, loop, wa
 use Rattle.stub_flat.specs.Flat.{Called, calls, way_calls}
 use Rattle.stub_flat.proofs.Chunks.{values, chunk_told, values_long, tell_octets}
 use Rattle.stub_flat.proofs.Counted.{block_lacks}
-use Rattle.stub_flat.proofs.Ends.{Ends, some_of, mapped_of, provided_of, fitting, fit_two, At, Goes, goes_none, goes_one, goes_in, then_goes, run_both, op_goes}
+use Rattle.stub_flat.proofs.Ends.{Ends, provided_of, fitting, fit_two, At, Goes, goes_none, goes_one, goes_in, then_goes, run_both, op_goes}
 use Rattle.stub_flat.proofs.Found.{calls_first, calls_second}
-use Rattle.stub_flat.proofs.Octets.{Wide, four, wide_is}
 use Rattle.stub_flat.proofs.PartsTyped.{IsAt, IsOfNode, IsPart, node_typed, part_at, length_part, elements_part, present_part, arm_part, rest_part, same_number}
-use Rattle.stub_flat.proofs.Rows.{words_over, width_wide, image_words, swapped_words, wide_words, row_goes, row_there}
+use Rattle.stub_flat.proofs.Rows.{words_over, image_words, swapped_words, wide_words, row_goes, row_there}
 use Rattle.stub_flat.proofs.Sets.{or_first, or_second, single_at, closed_has, closed_within, at_within, at_moved, at_padded, gap_turns}
 use Rattle.stub_flat.proofs.Told.{Answers, over_all, for_present, tell, tell_way, told, lacks, misfits}
+use Rattle.cast_stub.proofs.Widths.{Wide, four, wide_is, width_wide}
+use Rattle.cast_stub.proofs.Filled.{some_of, mapped_of}
+use Rattle.cast_stub.proofs.Patched.{patched_length}
 
 -- ---- ends
 
@@ -59,34 +58,6 @@ some_there None e = absurd cc
 some_there (Some a) e = (a, refl)
 
 -- ---- a place of the message
-
-length-written : (n : ℕ) (os f : List ℕ) → n + length os ≤ length f → length (written f n os) ≡ length f
-length-written n os f h =
-    length-append (take n f ++ os) (drop (n + length os) f)
-    ∙ (omega (arith, length-append (take n f) os, length-drop (n + length os) f, length-take-le n f (omega arith)))
-
-four_long : (order : Order) (n : ℕ) → length (in_order order 4 n) ≡ 4
-four_long Big n = refl
-four_long Little n = refl
-
-tests_hold : (x y : Bool) → (x && y) ≡ true → (x ≡ true) × (y ≡ true)
-tests_hold true true e = (refl, refl)
-tests_hold true false e = absurd cc
-tests_hold false y e = absurd cc
-
-patched_length : (base at sub : ℕ) (order : Order) (o x : List ℕ) → meaning.patched base at sub order o ≡ Some x → length x ≡ length o
-patched_length base at sub order o x = by_test (nat_le base at && nat_le (at + 4) (base + length o)) refl where
-  by_test : (b : Bool) → (nat_le base at && nat_le (at + 4) (base + length o)) ≡ b
-      → (if b then Some (written o (at - base) (in_order order 4 ((base + length o + 2 ^ 32 - sub) % 2 ^ 32))) else None) ≡ Some x
-      → length x ≡ length o
-  by_test true t e =
-      let n = (base + length o + 2 ^ 32 - sub) % 2 ^ 32 in
-      let both = tests_hold (nat_le base at) (nat_le (at + 4) (base + length o)) t in
-      let low = leb-true base at both.0 in
-      let high = leb-true (at + 4) (base + length o) both.1 in
-      let same : written o (at - base) (in_order order 4 n) ≡ x = cc in
-      sym (ap length same) ∙ length-written (at - base) (in_order order 4 n) o (omega (arith, four_long order n, low, high))
-  by_test false t e = absurd cc
 
 one_after : (x : Ends) → on_some x (λ a. wrote 0 a []) ≡ x
 one_after None = refl

@@ -17,9 +17,11 @@ use Rattle.cast_stub.specs.Meaning.{wrote}
 use Rattle.cast_stub.proofs.Putting.{if_so}
 use Rattle.stub_flat.specs.Items.{Source, num, tag, flag, count, short, head, Cell, fixed, Items, done, octets, ordered, word_of, piece, Places, put_on, puts_on, all_put, cells}
 use Rattle.stub_flat.proofs.Counted.{word_wide, wide_counts, unput, octets_weigh}
-use Rattle.stub_flat.proofs.Ends.{some_of, mapped_of, fitting, fit_then, fit_map}
-use Rattle.stub_flat.proofs.Octets.{Wide, one, two, four, eight, spelled, lack, word_spelled}
+use Rattle.stub_flat.proofs.Ends.{fitting, fit_then, fit_map}
+use Rattle.stub_flat.proofs.Octets.{spelled, lack, word_spelled}
 use Rattle.stub_flat.proofs.Told.{described, number_of, value, gain, loss, weigh, Answers, tell, told, put_lacks, lacks}
+use Rattle.cast_stub.proofs.Widths.{Wide, one, two, four, eight}
+use Rattle.cast_stub.proofs.Filled.{some_of, mapped_of}
 
 -- ---- what a put takes of a value
 

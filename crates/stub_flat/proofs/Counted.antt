@@ -16,9 +16,11 @@ use Rattle.stub_flat.specs.Places.{Spot, node_of, spot_at, element, present, row
 use Rattle.stub_flat.specs.Residues.{Residues, every, closed, moved, size_first, single_first}
 use Rattle.stub_flat.specs.Leaves.{width_of, leaves}
 use Rattle.stub_flat.specs.Items.{Source, num, tag, flag, count, short, head, Cell, fixed, Items, done, zeros, loop, ways, if_present, called, patched, Ways, octets, ordered, word_of, piece, Places, put_on, puts_on, all_put, cells, align_items, row_items, is_row, items, way_items}
-use Rattle.stub_flat.proofs.Ends.{some_of, mapped_of, provided_of}
-use Rattle.stub_flat.proofs.Octets.{Wide, one, two, four, eight, wide_is, lack}
+use Rattle.stub_flat.proofs.Ends.{provided_of}
+use Rattle.stub_flat.proofs.Octets.{lack}
 use Rattle.stub_flat.proofs.Told.{number_of, gain, loss, total, weigh, put_lacks, lacks, misfits}
+use Rattle.cast_stub.proofs.Widths.{Wide, one, two, four, eight, wide_is}
+use Rattle.cast_stub.proofs.Filled.{some_of, mapped_of}
 
 -- ---- the octets of a put
 

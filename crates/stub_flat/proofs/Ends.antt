@@ -1,5 +1,5 @@
 -- Octets that are there or not: one after the other, where everything fits, and to which residues they lead.
-use Rattle.std.proofs.Common.{◌≡◌, ℕ, zero, suc, ◌+◌, ◌%◌, List, length, Option, Some, None, option_map, Bool, true, false, refl, sym, ap, ◌∙◌, subst, arith}
+use Rattle.std.proofs.Common.{◌≡◌, ℕ, zero, suc, ◌+◌, ◌%◌, List, length, Option, Some, None, Bool, true, false, refl, sym, ap, ◌∙◌, subst, arith}
 use Rattle.cast_stub.specs.Parts.{on_some}
 use Rattle.cast_stub.specs.Steps.{Steps, both}
 use Rattle.cast_stub.specs.Meaning.{wrote}
@@ -10,17 +10,6 @@ use Rattle.stub_flat.specs.Items.{provided}
 -- octets, if there are
 abbrev pub Ends : Type 0
 Ends = Option (List ℕ)
-
--- ---- what an option that is there is made of
-
-pub some_of : {A B : Type 0} (o : Option A) (f : A → Option B) (b : B) → on_some o f ≡ Some b → (a : A) × ((o ≡ Some a) × (f a ≡ Some b))
-some_of None f b e = absurd cc
-some_of (Some a) f b e = (a, (refl, e))
-
-pub mapped_of : {A B : Type 0} (o : Option A) (f : A → B) (b : B) → option_map f o ≡ Some b → (a : A) × ((o ≡ Some a) × (f a ≡ b))
-mapped_of None f b e = absurd cc
-mapped_of (Some a) f b e =
-    let same : f a ≡ b = cc in (a, (refl, same))
 
 pub provided_of : {A : Type 0} (t : Bool) (o : Option A) (a : A) → provided t o ≡ Some a → (t ≡ true) × (o ≡ Some a)
 provided_of true o a e = (refl, e)

@@ -9,7 +9,7 @@ use Rattle.stub_flat.specs.Places.{Spot}
 use Rattle.stub_flat.specs.Residues.{every}
 use Rattle.stub_flat.specs.Items.{Items, items}
 use Rattle.stub_flat.specs.Flat.{Called, calls, Spots, noted, all_noted, calls_of_known, found_in, unknown, spots, list_items}
-use Rattle.stub_flat.proofs.Ends.{some_of, mapped_of}
+use Rattle.cast_stub.proofs.Filled.{some_of, mapped_of}
 
 -- ---- the parts of a list of calls
 

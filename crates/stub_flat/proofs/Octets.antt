@@ -1,34 +1,14 @@
 -- The octets of a number by their place, whatever its width is.
-use Rattle.std.proofs.Common.{◌≡◌, ℕ, zero, suc, ◌-◌, ◌<◌, ℤ, pos, negsuc, List, [], ◌∷◌, ◌++◌, length, map, reverse, Option, Some, None, Bool, true, false, if◌then◌else◌, nat_eq, nat_lt, ◌||◌, refl, sym, ap, ◌∙◌, subst, arith}
+use Rattle.std.proofs.Common.{◌≡◌, ℕ, zero, suc, ◌-◌, ◌<◌, ℤ, pos, negsuc, List, [], ◌∷◌, ◌++◌, length, map, reverse, Option, Some, None, Bool, true, false, if◌then◌else◌, nat_lt, refl, sym, ap, ◌∙◌, arith}
 use Rattle.std.specs.Int.{byte_at}
-use Rattle.std.proofs.lemmas.Bool.{eqb-true, ltb-true}
+use Rattle.std.proofs.lemmas.Bool.{ltb-true}
 use Rattle.wire_def.specs.declared.head.Order.{Order}
 use Rattle.wire_def.specs.declared.head.Order.TheVariants.{Big, Little}
 use Rattle.wire_def.specs.Orders.{in_order}
 use Rattle.cast_stub.specs.Parts.{on_some}
 use Rattle.cast_stub.specs.Puts.{wrapped, half_of, word}
-use Rattle.cast_stub.specs.Steps.{is_width}
 use Rattle.stub_flat.proofs.Ends.{fitting}
-
--- ---- widths
-
--- a width
-pub data Wide : ℕ → Type 0 where
-  one : Wide 1
-  two : Wide 2
-  four : Wide 4
-  eight : Wide 8
-
-by_tests : (n : ℕ) (a b c d : Bool) → nat_eq n 1 ≡ a → nat_eq n 2 ≡ b → nat_eq n 4 ≡ c → nat_eq n 8 ≡ d → (a || b || c || d) ≡ true
-    → Wide n
-by_tests n true b c d e f g h t = subst Wide (sym (eqb-true n 1 e)) one
-by_tests n false true c d e f g h t = subst Wide (sym (eqb-true n 2 f)) two
-by_tests n false false true d e f g h t = subst Wide (sym (eqb-true n 4 g)) four
-by_tests n false false false true e f g h t = subst Wide (sym (eqb-true n 8 h)) eight
-by_tests n false false false false e f g h t = absurd cc
-
-pub wide_is : (n : ℕ) → is_width n ≡ true → Wide n
-wide_is n e = by_tests n (nat_eq n 1) (nat_eq n 2) (nat_eq n 4) (nat_eq n 8) refl refl refl refl e
+use Rattle.cast_stub.proofs.Widths.{Wide, one, two, four, eight}
 
 -- ---- octets by place
 

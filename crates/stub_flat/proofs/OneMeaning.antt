@@ -21,10 +21,11 @@ use Rattle.stub_flat.specs.Laws.{OneFlatOneMeaning}
 use Rattle.stub_flat.specs.Places.{Spot}
 use Rattle.stub_flat.specs.Residues.{only, every}
 use Rattle.stub_flat.proofs.Blocks.{IsAnswered, block_goes, to_told}
-use Rattle.stub_flat.proofs.Ends.{Ends, some_of, mapped_of}
+use Rattle.stub_flat.proofs.Ends.{Ends}
 use Rattle.stub_flat.proofs.Found.{Agrees, AllAgree, spots_are, listed, unlisted}
 use Rattle.stub_flat.proofs.PartsTyped.{IsAt}
 use Rattle.stub_flat.proofs.Told.{told, answers}
+use Rattle.cast_stub.proofs.Filled.{some_of, mapped_of}
 
 module _ (N : List Node) (table : IsTable N) (h : Head) (subs : List (List SendOp)) (ts : Spots) (is : List Items)
     (made : list_items N (map code_seen subs) ts ≡ Some is) (agree : AllAgree ts (calls_of_known N (map code_seen subs) ts)) where

@@ -1,126 +1,35 @@
 -- A row operation appends what a loop over its numbers appends, by induction on the numbers.
-use Rattle.std.proofs.Common.{◌≡◌, ℕ, zero, suc, ◌-◌, ◌<◌, ℤ, pos, negsuc, List, [], ◌∷◌, ◌++◌, length, map, reverse, Option, None, Some, Bool, true, false, IsTrue, ◌&&◌, if◌then◌else◌, nat_lt, refl, sym, ap, subst, ◌∙◌, arith, append_assoc, append-nil}
+use Rattle.std.proofs.Common.{◌≡◌, ℕ, zero, suc, ◌-◌, ℤ, List, [], ◌∷◌, ◌++◌, length, map, reverse, Option, None, Some, Bool, true, false, IsTrue, ◌&&◌, refl, sym, ap, subst, ◌∙◌, append_assoc, append-nil}
 use Rattle.std.specs.List.{list_all}
-use Rattle.std.specs.Int.{w8, w16, w32, w64, to_le_bytes, cast_unsigned}
-use Rattle.std.proofs.lemmas.Bool.{lt-ltb, ltb-true}
-use Rattle.kit_base.specs.Bytes.{be}
 use Rattle.mint.specs.declared.kind.Kind.{Kind}
-use Rattle.mint.specs.declared.kind.Kind.TheVariants as kind
 use Rattle.mint.specs.declared.node.Node.{Node}
-use Rattle.mint.specs.Kinds.{in_range, word as own_word, width}
+use Rattle.mint.specs.Kinds.{in_range, width}
 use Rattle.mint.specs.Row.{octets_of, image_of}
 use Rattle.mint.specs.Types.{IsTable}
 use Rattle.mint.specs.Values.{Val, num as num_val, row, vals_of, row_in}
 use Rattle.wire_def.specs.declared.head.Head.{Head}
 use Rattle.wire_def.specs.declared.head.Order.{Order}
 use Rattle.wire_def.specs.declared.head.Order.TheVariants.{Big, Little}
-use Rattle.wire_def.specs.Orders.{in_order}
 use Rattle.cast_stub.specs.Parts.{on_some, elements_in}
-use Rattle.cast_stub.specs.Puts.{word, half_of, wrapped}
+use Rattle.cast_stub.specs.Puts.{word}
 use Rattle.cast_stub.specs.Steps.{Steps, swapped, wide}
 use Rattle.cast_stub.specs.Meaning.{wrote}
-use Rattle.cast_stub.proofs.Putting.{if_so}
 use Rattle.stub_flat.specs.Items.{num, done, octets, ordered}
 use Rattle.stub_flat.specs.Places.{Spot, node_of, row_kind}
 use Rattle.stub_flat.specs.Residues.{Residues, moved}
 use Rattle.stub_flat.proofs.Chunks.{told_number}
-use Rattle.stub_flat.proofs.Ends.{Ends, some_of, fitting, fit_map, At, Goes, goes_one, goes_eq, then_goes}
-use Rattle.stub_flat.proofs.Octets.{Wide, one, two, four, eight, spelled, lack, word_spelled, spelled_long}
+use Rattle.stub_flat.proofs.Ends.{Ends, fitting, fit_map, At, Goes, goes_one, goes_eq, then_goes}
+use Rattle.stub_flat.proofs.Octets.{spelled, lack, word_spelled, spelled_long}
 use Rattle.stub_flat.proofs.PartsTyped.{IsPart, IsRow, node_typed, row_part}
 use Rattle.stub_flat.proofs.Sets.{Within, at_within, at_moved}
 use Rattle.stub_flat.proofs.Told.{Answers, over_all, told}
-
--- ---- the octets of a number of a kind
-
-posit : (n m most : ℕ) → n < most → n ≡ m → (if nat_lt n most then Some n else None) ≡ Some m
-posit n m most lt same = if_so (nat_lt n most) n (lt-ltb n most lt) ∙ ap Some same
-
-negat : (n r m most : ℕ) → n < most → r ≡ m → (if nat_lt n most then Some r else None) ≡ Some m
-negat n r m most lt same = if_so (nat_lt n most) r (lt-ltb n most lt) ∙ ap Some same
-
--- a number of the kind in its word
-wrapped_is : (k : Kind) (z : ℤ) → IsTrue (in_range k z)
-    → on_some (half_of (width k)) (λ h. wrapped h z) ≡ Some (cast_unsigned (own_word k) z)
-wrapped_is kind.Octet (pos n) h = let lt : n < 256 = ltb-true n 256 h in posit n (cast_unsigned w8 (pos n)) 256 lt (omega arith)
-wrapped_is kind.U8 (pos n) h = let lt : n < 256 = ltb-true n 256 h in posit n (cast_unsigned w8 (pos n)) 256 lt (omega arith)
-wrapped_is kind.Char (pos n) h = let lt : n < 256 = ltb-true n 256 h in posit n (cast_unsigned w8 (pos n)) 256 lt (omega arith)
-wrapped_is kind.Bool (pos n) h = let lt : n < 2 = ltb-true n 2 h in posit n (cast_unsigned w8 (pos n)) 256 (omega arith) (omega arith)
-wrapped_is kind.U16 (pos n) h = let lt : n < 65536 = ltb-true n 65536 h in posit n (cast_unsigned w16 (pos n)) 65536 lt (omega arith)
-wrapped_is kind.U32 (pos n) h =
-    let lt : n < 4294967296 = ltb-true n 4294967296 h in
-    posit n (cast_unsigned w32 (pos n)) 4294967296 lt (omega arith)
-wrapped_is kind.U64 (pos n) h =
-    let lt : n < 18446744073709551616 = ltb-true n 18446744073709551616 h in
-    posit n (cast_unsigned w64 (pos n)) 18446744073709551616 lt (omega arith)
-wrapped_is kind.I8 (pos n) h = let lt : n < 128 = ltb-true n 128 h in posit n (cast_unsigned w8 (pos n)) 256 (omega arith) (omega arith)
-wrapped_is kind.I16 (pos n) h =
-    let lt : n < 32768 = ltb-true n 32768 h in
-    posit n (cast_unsigned w16 (pos n)) 65536 (omega arith) (omega arith)
-wrapped_is kind.I32 (pos n) h =
-    let lt : n < 2147483648 = ltb-true n 2147483648 h in
-    posit n (cast_unsigned w32 (pos n)) 4294967296 (omega arith) (omega arith)
-wrapped_is kind.I64 (pos n) h =
-    let lt : n < 9223372036854775808 = ltb-true n 9223372036854775808 h in
-    posit n (cast_unsigned w64 (pos n)) 18446744073709551616 (omega arith) (omega arith)
-wrapped_is kind.I8 (negsuc n) h =
-    let lt : n < 128 = ltb-true n 128 h in
-    negat n (255 - n) (cast_unsigned w8 (negsuc n)) 128 lt (omega arith)
-wrapped_is kind.I16 (negsuc n) h =
-    let lt : n < 32768 = ltb-true n 32768 h in
-    negat n (65535 - n) (cast_unsigned w16 (negsuc n)) 32768 lt (omega arith)
-wrapped_is kind.I32 (negsuc n) h =
-    let lt : n < 2147483648 = ltb-true n 2147483648 h in
-    negat n (4294967295 - n) (cast_unsigned w32 (negsuc n)) 2147483648 lt (omega arith)
-wrapped_is kind.I64 (negsuc n) h =
-    let lt : n < 9223372036854775808 = ltb-true n 9223372036854775808 h in
-    negat n (18446744073709551615 - n) (cast_unsigned w64 (negsuc n)) 9223372036854775808 lt (omega arith)
-wrapped_is kind.Octet (negsuc n) h = absurd (omega (arith, ltb-true n 0 h))
-wrapped_is kind.U8 (negsuc n) h = absurd (omega (arith, ltb-true n 0 h))
-wrapped_is kind.Char (negsuc n) h = absurd (omega (arith, ltb-true n 0 h))
-wrapped_is kind.Bool (negsuc n) h = absurd (omega (arith, ltb-true n 0 h))
-wrapped_is kind.U16 (negsuc n) h = absurd (omega (arith, ltb-true n 0 h))
-wrapped_is kind.U32 (negsuc n) h = absurd (omega (arith, ltb-true n 0 h))
-wrapped_is kind.U64 (negsuc n) h = absurd (omega (arith, ltb-true n 0 h))
-
-big_octets : (k : Kind) (m : ℕ) → be (width k) m ≡ reverse (to_le_bytes (own_word k) m)
-big_octets kind.Octet m = refl
-big_octets kind.I8 m = refl
-big_octets kind.U8 m = refl
-big_octets kind.Char m = refl
-big_octets kind.I16 m = refl
-big_octets kind.U16 m = refl
-big_octets kind.I32 m = refl
-big_octets kind.U32 m = refl
-big_octets kind.I64 m = refl
-big_octets kind.U64 m = refl
-big_octets kind.Bool m = refl
-
--- the octets of a number of the kind, in either order
-word_little : (k : Kind) (z : ℤ) → IsTrue (in_range k z) → word (width k) Little z ≡ Some (octets_of k z)
-unfolding octets_of
-word_little k z h = ap (λ (x : Option ℕ). on_some x (λ n. Some (in_order Little (width k) n))) (wrapped_is k z h)
-
-word_big : (k : Kind) (z : ℤ) → IsTrue (in_range k z) → word (width k) Big z ≡ Some (reverse (octets_of k z))
-unfolding octets_of
-word_big k z h = ap (λ (x : Option ℕ). on_some x (λ n. Some (in_order Big (width k) n))) (wrapped_is k z h)
-    ∙ ap Some (big_octets k (cast_unsigned (own_word k) z))
+use Rattle.cast_stub.proofs.RowWords.{word_little, word_big}
+use Rattle.cast_stub.proofs.Widths.{Wide}
+use Rattle.cast_stub.proofs.Filled.{some_of}
 
 both_true : (a b : Bool) → IsTrue (a && b) → IsTrue a × IsTrue b
 both_true true b e = (refl, e)
 both_true false b e = absurd cc
-
-pub width_wide : (k : Kind) → Wide (width k)
-width_wide kind.Octet = one
-width_wide kind.I8 = one
-width_wide kind.U8 = one
-width_wide kind.Char = one
-width_wide kind.I16 = two
-width_wide kind.U16 = two
-width_wide kind.I32 = four
-width_wide kind.U32 = four
-width_wide kind.I64 = eight
-width_wide kind.U64 = eight
-width_wide kind.Bool = one
 
 -- ---- numbers one by one
 

@@ -5,7 +5,7 @@ use Rattle.std.proofs.lemmas.List.{length-replicate}
 use Rattle.wire_def.specs.Scalars.{gap}
 use Rattle.stub_flat.specs.Residues.{Residues, sum, moved, comes, aligned, within_first, is_within, size_first, closing, closed, single_first}
 use Rattle.stub_flat.proofs.Ends.{At}
-use Rattle.stub_flat.proofs.Octets.{Wide, one, two, four, eight}
+use Rattle.cast_stub.proofs.Widths.{Wide, one, two, four, eight}
 
 -- ---- tests
 

@@ -1,12 +1,13 @@
 -- Units of Mach messages, and so many elements of so many octets.
 use Rattle.std.proofs.Common.{◌≡◌, ℕ, zero, suc, ◌+◌, ◌*◌, ◌/◌, ◌%◌, refl, sym, ◌∙◌, arith, zero-mul, true}
 use Rattle.std.specs.Prelude.{nat_eq}
-use Rattle.std.proofs.lemmas.Bool.{eq-eqb, eqb-true}
+use Rattle.std.proofs.lemmas.Bool.{eqb-true}
 use Rattle.std.proofs.Math.Nat.{suc-mul}
 use Rattle.mint.specs.declared.kind.Kind.TheVariants as kind
 use Rattle.mint.specs.Types.{Scalar, number, label}
 use Rattle.wire_def.specs.Lone.{units_of}
 use Rattle.wire_def.specs.Described.{is_whole, elements_in}
+use Rattle.wire_def.proofs.DescribedGrammar.{whole_of, elements_of}
 
 -- ---- how many elements so many units are
 
@@ -40,13 +41,7 @@ elements_back s k m whole is = either (units s) where
       rw u (omega (arith, half, even))
 
 pub elements_are : (s : Scalar) (m : ℕ) → (is_whole s (m * units_of s) ≡ true) × (elements_in s (m * units_of s) ≡ m)
-elements_are s m = either (units s) where
-  either : Units s → (is_whole s (m * units_of s) ≡ true) × (elements_in s (m * units_of s) ≡ m)
-  either (single u w count) = (w (m * units_of s), count (m * units_of s) ∙ rw u (omega arith))
-  either (twice u w count) =
-      let even : m * 2 % 2 ≡ 0 = omega arith in
-      let half : m * 2 / 2 ≡ m = omega arith in
-      (w (m * units_of s) ∙ rw u (eq-eqb (m * 2 % 2) 0 even), count (m * units_of s) ∙ rw u half)
+elements_are s m = (whole_of s m, elements_of s m)
 
 -- ---- elements of so many octets
 

@@ -14,7 +14,9 @@ use Rattle.cast_stub.specs.Puts.{Cells, placed, put_octets, offset, put_one, put
 use Rattle.cast_stub.specs.Steps.{Stored, chunk_steps}
 use Rattle.stub_machine.specs.Run.{State, Runs, Ends, ran, state_of, stored_times}
 use Rattle.stub_machine.specs.Putting.{octets_in, Writes, Over, OverAll}
-use Rattle.stub_machine.proofs.Rooms.{state, length-written}
+use Rattle.stub_machine.proofs.Rooms.{state}
+use Rattle.cast_stub.proofs.Filled.{length-filled}
+use Rattle.cast_stub.proofs.Patched.{length-written}
 
 pub there_then : {A B : Type 0} (z : Option A) (f : A → Option B) → IsThere (on_some z f) → IsThere z
 there_then None f h = h
@@ -182,25 +184,6 @@ filled-over h v ps size f over there =
     filled_at (put_all h v ps (replicate size None)) size f
     (subst (LongAll (put_all h v ps (replicate size None))) (length-replicate size None) (long-put_all h v ps (replicate size None))) over
     there
-
-full-long : (cs : Cells) (os : List ℕ) → full cs ≡ Some os → length os ≡ length cs
-full-long [] os e = let s : [] ≡ os = cc in ap length (sym s)
-full-long (None ∷ cs) os e = absurd cc
-full-long (Some x ∷ cs) os e = long_full (full cs) x os (length cs) e (full-long cs) where
-  long_full : (z : Option (List ℕ)) (x : ℕ) (os : List ℕ) (k : ℕ) → option_map (λ l. x ∷ l) z ≡ Some os
-      → ((l : List ℕ) → z ≡ Some l → length l ≡ k)
-      → length os ≡ suc k
-  long_full None x os k e h = absurd cc
-  long_full (Some l) x os k e h = let s : x ∷ l ≡ os = cc in ap length (sym s) ∙ ap suc (h l refl)
-
-filled_long : (z : Option Cells) (size : ℕ) (os : List ℕ) → LongAll z size → on_some z full ≡ Some os → length os ≡ size
-filled_long None size os long e = absurd cc
-filled_long (Some cs) size os long e = full-long cs os e ∙ long
-
-pub length-filled : (h : Head) (v : Val) (ps : List Put) (size : ℕ) (os : List ℕ) → filled size ps h v ≡ Some os → length os ≡ size
-length-filled h v ps size os e =
-    filled_long (put_all h v ps (replicate size None)) size os
-    (subst (LongAll (put_all h v ps (replicate size None))) (length-replicate size None) (long-put_all h v ps (replicate size None))) e
 
 -- ---- what a loop over puts keeps
 

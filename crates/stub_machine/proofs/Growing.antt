@@ -18,9 +18,9 @@ use Rattle.cast_stub.proofs.Appending.{steps-append, op-append}
 use Rattle.cast_stub.proofs.Pieces.{seen-Each, seen-Some, seen-Switch, seen-Call}
 use Rattle.stub_machine.specs.Run.{State, state_of, act, ran, ended, Ends, Grown}
 use Rattle.stub_machine.proofs.Folds.{ended-both}
-use Rattle.stub_machine.proofs.Rooms.{length-written, four}
 use Rattle.cast_stub.proofs.Codes.{code-drop}
 use Rattle.stub_machine.proofs.Running.{Left, block_step, over-drop, numbers-drop}
+use Rattle.cast_stub.proofs.Patched.{length-written, four}
 
 -- ---- single steps
 

@@ -1,12 +1,11 @@
 -- Steps that have their room run, and lead to what they write and cost, by induction on the steps.
-use Rattle.std.proofs.Common.{◌≡◌, ℕ, zero, suc, ◌+◌, ◌-◌, ◌^◌, ◌%◌, ◌≤◌, max, List, [], ◌∷◌, ◌++◌, length, take, drop, replicate, Option, None, Some, refl, sym, ap, subst, ◌∙◌, arith, append_assoc, length-append, length-drop, Bool, true, false, nat_le, if◌then◌else◌, ◌&&◌}
-use Rattle.std.proofs.lemmas.List.{length-replicate, length-take-le}
+use Rattle.std.proofs.Common.{◌≡◌, ℕ, zero, suc, ◌+◌, ◌-◌, ◌^◌, ◌%◌, ◌≤◌, max, List, [], ◌∷◌, ◌++◌, length, replicate, Option, None, Some, refl, sym, ap, subst, ◌∙◌, arith, append_assoc, length-append, Bool, true, false, nat_le, if◌then◌else◌, ◌&&◌}
+use Rattle.std.proofs.lemmas.List.{length-replicate}
 use Rattle.std.proofs.lemmas.Bool.{le-leb, leb-true}
 use Rattle.kit_base.specs.Bytes.{written}
 use Rattle.kit_base.specs.Causes.{raised}
 use Rattle.wire_def.specs.Scalars.{gap}
 use Rattle.wire_def.specs.declared.head.Order.{Order}
-use Rattle.wire_def.specs.declared.head.Order.TheVariants.{Big, Little}
 use Rattle.raw_buf.specs.declared.tally.Tally.{Tally}
 use Rattle.raw_buf.specs.Buf.{checked, moved, stored, rowed}
 use Rattle.wire_def.specs.Orders.{in_order}
@@ -17,25 +16,17 @@ use Rattle.cast_stub.specs.Steps.{Step, Room, Pad, Stored, Widened, Copied, Patc
 use Rattle.cast_stub.specs.Meaning.{wrote, Cost, no_cost, sum, cost_of, costs, HasRoom}
 use Rattle.stub_machine.specs.Run.{State, stored_times, appended, ran}
 use Rattle.stub_machine.specs.Sending.{paid}
+use Rattle.cast_stub.proofs.Patched.{length-written, four}
 
 abbrev pub state : List ℕ → ℕ → Tally → Tally → State
 state d a t u = record { done = d; ahead = a; tally = t; spent = u }
 
 -- ---- octets over others
 
-pub length-written : (n : ℕ) (os f : List ℕ) → n + length os ≤ length f → length (written f n os) ≡ length f
-length-written n os f h =
-    length-append (take n f ++ os) (drop (n + length os) f)
-    ∙ (omega (arith, length-append (take n f) os, length-drop (n + length os) f, length-take-le n f (omega arith)))
-
 written-front : (a b octets : List ℕ) (at : ℕ) → length a ≤ at → written (a ++ b) at octets ≡ a ++ written b (at - length a) octets
 written-front a b octets at h =
     let e : length a + (at - length a) ≡ at = omega arith in
     ap (λ (k : ℕ). written (a ++ b) k octets) (sym e) ∙ written-after a b octets (at - length a)
-
-pub four : (order : Order) (n : ℕ) → length (in_order order 4 n) ≡ 4
-four Big n = refl
-four Little n = refl
 
 -- the octets of a length, over four of those after others
 abbrev put_over : ℕ → ℕ → Order → List ℕ → List ℕ

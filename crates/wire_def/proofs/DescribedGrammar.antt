@@ -142,7 +142,7 @@ name_small s = (units_small s).1
 pub bits_small : (s : Scalar) → unit_bits s < 256
 bits_small s = (units_small s).2
 
-whole_of : (s : Scalar) (n : ℕ) → is_whole s (n * units_of s) ≡ true
+pub whole_of : (s : Scalar) (n : ℕ) → is_whole s (n * units_of s) ≡ true
 whole_of (label ls) n = refl
 whole_of (number kind.I64) n = eq-eqb (n * 2 % 2) 0 (omega arith)
 whole_of (number kind.U64) n = eq-eqb (n * 2 % 2) 0 (omega arith)
@@ -156,7 +156,7 @@ whole_of (number kind.I32) n = refl
 whole_of (number kind.U32) n = refl
 whole_of (number kind.Bool) n = refl
 
-elements_of : (s : Scalar) (n : ℕ) → elements_in s (n * units_of s) ≡ n
+pub elements_of : (s : Scalar) (n : ℕ) → elements_in s (n * units_of s) ≡ n
 elements_of (label ls) n = omega arith
 elements_of (number kind.I64) n = omega arith
 elements_of (number kind.U64) n = omega arith

@@ -23,7 +23,7 @@ nothing_after p (b ∷ bs) more h j = absurd cc
 mutual
   unfolding send
 
-  empty : (e : Encoding) (t : Ty) → is_hollow t ≡ true → (p : ℕ) (v : Val) → send e t p v ≡ []
+  pub empty : (e : Encoding) (t : Ty) → is_hollow t ≡ true → (p : ℕ) (v : Val) → send e t p v ≡ []
   empty e void_type h p v = refl
   empty e (group_type ts) h p (group vs) = fields_empty e ts h p vs
   empty e (group_type ts) h p _ = refl
