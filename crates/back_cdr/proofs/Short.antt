@@ -2,7 +2,7 @@
 use Rattle.std.proofs.Common.{◌≡◌, Bool, true, false, ℕ, zero, suc, ◌+◌, ◌≤◌, ◌<◌, List, [], ◌∷◌, ◌++◌, map, length, get_or, replicate, refl, ap, arith, length-append}
 use Rattle.std.specs.Prelude.{slice_index_or}
 use Rattle.std.specs.List.{list_any, AllByRecursion}
-use Rattle.std.proofs.lemmas.Bool.{ltb-false}
+use Rattle.std.proofs.lemmas.Bool.{ltb-false, or_parts}
 use Rattle.std.proofs.lemmas.List.{length-replicate}
 use Rattle.wire_def.specs.declared.head.Order.{Order}
 use Rattle.wire_def.specs.declared.head.Order.TheVariants.{Big, Little}
@@ -15,7 +15,6 @@ use Rattle.giop_head.specs.Items.{flag}
 use Rattle.giop_head.specs.Printed.{long_octets, short_octets, then_long, then_short, then_sequence, then_string, header_octets, then_first, then_last, response_flags, then_wants, then_target, then_close, then_gap, begun_octets, request_octets, status_octets}
 use Rattle.pres.specs.Bindings.{Binding, IsBinding}
 use Rattle.pres.specs.Faults.{is_long, has_long, has_long_in}
-use Rattle.pres.proofs.Rises.{neither}
 use Rattle.back_cdr.specs.Targets.{Target, IsShort, HasShortNames, no_target, target_in, targets, target_of}
 use Rattle.back_cdr.specs.Leads.{lead, reply_lead}
 
@@ -28,26 +27,26 @@ ids_short : (rs : List PlainRaise) → list_any (λ (r : PlainRaise). is_long r.
     → AllByRecursion IsShort (map (λ (r : PlainRaise). r.id) rs)
 ids_short [] h = tt
 ids_short (r ∷ rs) h =
-    let p = neither (is_long r.id) (list_any (λ (x : PlainRaise). is_long x.id) rs) h in
+    let p = or_parts (is_long r.id) (list_any (λ (x : PlainRaise). is_long x.id) rs) h in
     (not_long r.id p.0, ids_short rs p.1)
 
 target_short : (i : PlainInterface) (op : PlainOperation) → is_long i.name ≡ false → has_long op ≡ false → HasShortNames (target_in i op)
 target_short i op key h =
-    let p = neither (is_long op.name) (list_any (λ (x : PlainRaise). is_long x.id) op.raises) h in
+    let p = or_parts (is_long op.name) (list_any (λ (x : PlainRaise). is_long x.id) op.raises) h in
     record { key = not_long i.name key; name = not_long op.name p.0; ids = ids_short op.raises p.1 }
 
 own_short : (i : PlainInterface) (ops : List PlainOperation) (ts : List Target) → is_long i.name ≡ false → list_any has_long ops ≡ false
     → AllByRecursion HasShortNames ts → AllByRecursion HasShortNames (map (target_in i) ops ++ ts)
 own_short i [] ts key h others = others
 own_short i (op ∷ ops) ts key h others =
-    let p = neither (has_long op) (list_any has_long ops) h in
+    let p = or_parts (has_long op) (list_any has_long ops) h in
     (target_short i op key p.0, own_short i ops ts key p.1 others)
 
 all_short : (is : List PlainInterface) → list_any has_long_in is ≡ false → AllByRecursion HasShortNames (targets is)
 all_short [] h = tt
 all_short (i ∷ is) h =
-    let p = neither (has_long_in i) (list_any has_long_in is) h in
-    let q = neither (is_long i.name) (list_any has_long i.ops) p.0 in
+    let p = or_parts (has_long_in i) (list_any has_long_in is) h in
+    let q = or_parts (is_long i.name) (list_any has_long i.ops) p.0 in
     own_short i i.ops (targets is) q.0 q.1 (all_short is p.1)
 
 no_short : HasShortNames no_target

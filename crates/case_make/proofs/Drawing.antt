@@ -1,20 +1,15 @@
 -- What is drawn: numbers in range, lengths that are allowed, and one of several.
 use Rattle.std.proofs.Common.{◌≡◌, ℕ, zero, suc, ◌+◌, ◌-◌, ◌*◌, ◌/◌, ◌%◌, ◌^◌, ◌<◌, ◌≤◌, ◌⊎◌, inl, inr, min, Bool, true, false, ◌||◌, ℤ, pos, negsuc, ◌-ℤ◌, List, [], ◌∷◌, length, map, get_or, refl, ap, ◌∙◌, arith, lt-ltb, mod-lt, int_eq, None, Some, slice_get}
 use Rattle.std.specs.List.{list_all, list_any}
-use Rattle.std.proofs.lemmas.Bool.{cases_order}
+use Rattle.std.proofs.lemmas.Bool.{cases_lt, and_parts}
 use Rattle.std.proofs.lemmas.Bool.Decides.{Decides-int_eq}
 use Rattle.std.proofs.lemmas.Int.{ints}
-use Rattle.mint.proofs.Measuring.{split}
 use Rattle.mint.specs.declared.kind.Kind.{Kind}
 use Rattle.mint.specs.declared.kind.Kind.TheVariants as kind
 use Rattle.mint.specs.declared.kind.Count.{Count}
 use Rattle.mint.specs.declared.kind.Count.TheVariants.{Exactly, AtMost, Any}
 use Rattle.mint.specs.Kinds.{above, under, in_range, is_letter, Allows}
 use Rattle.case_make.specs.Draws.{Drawn, next, below, several, span, drawn_number, drawn_one, drawn_length, drawn_letter}
-
-pub below_or_not : (n m : ℕ) → (n < m) ⊎ (m ≤ n)
-below_or_not n m =
-    elim (cases_order n m) [ inl e ↦ inr (omega arith) | inr o ↦ elim o [ inl l ↦ inl l | inr g ↦ inr (omega arith) ] ]
 
 pub below-lt : (many s : ℕ) → 0 < many → below many s < many
 unfolding below
@@ -29,7 +24,7 @@ from_zero : (n u : ℕ) → u ≤ n → pos n -ℤ pos u ≡ pos (n - u)
 from_zero n u h = omega (arith, ints)
 
 shifted_in : (k : Kind) (n : ℕ) → n < above k + under k → in_range k (pos n -ℤ pos (under k)) ≡ true
-shifted_in k n h = elim (below_or_not n (under k)) [
+shifted_in k n h = elim (cases_lt n (under k)) [
   | inl l ↦ rw (under_zero n (under k) l) (lt-ltb (under k - n - 1) (under k) (omega arith))
   | inr g ↦ rw (from_zero n (under k) g) (lt-ltb (n - under k) (above k) (omega arith))
 ]
@@ -99,8 +94,8 @@ all_several p f h (suc n) s = rw (h s) (all_several p f h n (f s).state)
 
 pub all_at : (p : ℤ → Bool) (ns : List ℤ) (i : ℕ) (d : ℤ) → list_all p ns ≡ true → i < length ns → p (get_or ns i d) ≡ true
 all_at p [] i d h l = absurd (omega arith)
-all_at p (n ∷ ns) zero d h l = (split (p n) (list_all p ns) h).0
-all_at p (n ∷ ns) (suc i) d h l = all_at p ns i d (split (p n) (list_all p ns) h).1 (omega arith)
+all_at p (n ∷ ns) zero d h l = (and_parts (p n) (list_all p ns) h).0
+all_at p (n ∷ ns) (suc i) d h l = all_at p ns i d (and_parts (p n) (list_all p ns) h).1 (omega arith)
 
 or_true : (b : Bool) → b || true ≡ true
 or_true true = refl

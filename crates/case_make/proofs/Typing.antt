@@ -12,28 +12,21 @@ use Rattle.mint.specs.Typed.{is_scalar, IsScalar, has_arm, Each, IsOf, AreOf, Is
 use Rattle.mint.specs.Values.{Val, present, absent, vals_of, weight}
 use Rattle.mint.proofs.BlankTyped.{blank_is_of, blank_is_well_typed}
 use Rattle.mint.proofs.Fitting.{count-vals_of}
-use Rattle.mint.proofs.Measuring.{level_taken, sound_taken, split}
+use Rattle.mint.proofs.Measuring.{level_taken, sound_taken}
 use Rattle.case_make.specs.Draws.{Drawn, below, next, drawn_as, several, drawn_one, drawn_scalar, drawn_length, drawn_letter, drawn_number}
 use Rattle.case_make.specs.Made.{drawn_array, drawn, drawn_fields, drawn_arm, made}
-use Rattle.case_make.proofs.Drawing.{below_or_not, below-lt, drawn_in, drawn_letter_in, drawn_allowed, length-several, all_several, all_at, any_at}
-
-not_false : (b : Bool) → not b ≡ false → b ≡ true
-not_false true h = refl
-not_false false h = absurd cc
-
-true_both : (a b : Bool) → a ≡ true → b ≡ true → a && b ≡ true
-true_both true b g h = h
-true_both false b g h = absurd cc
+use Rattle.case_make.proofs.Drawing.{below-lt, drawn_in, drawn_letter_in, drawn_allowed, length-several, all_several, all_at, any_at}
+use Rattle.std.proofs.lemmas.Bool.{not-false, and_from, not-true, and_parts, cases_lt}
 
 -- ---- scalars
 
 one_label : (ns : List ℤ) (s : ℕ) → are_labels ns ≡ true → is_scalar (label ns) (drawn_one (pos 0) ns s).value ≡ true
 one_label [] s h = absurd cc
 one_label (n ∷ ns) s h =
-    let ranged = split (list_all (in_range kind.I32) (n ∷ ns)) _ h in
+    let ranged = and_parts (list_all (in_range kind.I32) (n ∷ ns)) _ h in
     let less = below-lt (length (n ∷ ns)) s (omega arith) in
     let i = below (length (n ∷ ns)) s in
-    true_both _ _ (all_at (in_range kind.I32) (n ∷ ns) i (pos 0) ranged.0 less) (any_at (n ∷ ns) i (pos 0) less)
+    and_from _ _ (all_at (in_range kind.I32) (n ∷ ns) i (pos 0) ranged.0 less) (any_at (n ∷ ns) i (pos 0) less)
 
 drawn_is_scalar : (a : Scalar) (s : ℕ) → is_labelled a ≡ true → IsScalar a (drawn_scalar a s).value
 drawn_is_scalar (number k) s h = drawn_in k s
@@ -87,23 +80,19 @@ record Armed (a : Scalar) (arms : Arms) : Type 0 where
   scalars : list_all (is_scalar a) (arm_numbers arms) ≡ true
   some : is_armless arms ≡ false
 
-not_true : (b : Bool) → not b ≡ true → b ≡ false
-not_true false h = refl
-not_true true h = absurd cc
-
 armed : (a : Scalar) (arms : Arms) → level_refusal (choice_type a arms) ≡ None → Armed a arms
 armed a arms h =
     let ns = arm_numbers arms in
     let both =
-    split (is_labelled a) (are_arms a arms)
-    (not_false (is_labelled a && are_arms a arms) (level_taken (choice_type a arms) h).labelled) in
-    let parts = split (are_tagged a ns) (not (is_armless arms)) both.1 in
-    let tagged = split (nat_le (length ns) most_labels) (rise_from None ns && list_all (is_scalar a) ns) parts.0 in
+    and_parts (is_labelled a) (are_arms a arms)
+    (not-false (is_labelled a && are_arms a arms) (level_taken (choice_type a arms) h).labelled) in
+    let parts = and_parts (are_tagged a ns) (not (is_armless arms)) both.1 in
+    let tagged = and_parts (nat_le (length ns) most_labels) (rise_from None ns && list_all (is_scalar a) ns) parts.0 in
     record {
       labelled = both.0;
-      scalars = (split (rise_from None ns) (list_all (is_scalar a) ns) tagged.1).1;
+      scalars = (and_parts (rise_from None ns) (list_all (is_scalar a) ns) tagged.1).1;
       some =
-          not_true (is_armless arms) parts.1;
+          not-true (is_armless arms) parts.1;
     }
 
 -- ---- types
@@ -126,7 +115,7 @@ arm_or_later false t arms n f g e h k = k e
 mutual
   pub drawn_is_of : (t : Ty) → IsSound t → (s : ℕ) → IsOf t (drawn t s).value
   drawn_is_of void_type h s = tt
-  drawn_is_of (scalar_type a) h s = drawn_is_scalar a s (not_false (is_labelled a) (level_taken (scalar_type a) h).labelled)
+  drawn_is_of (scalar_type a) h s = drawn_is_scalar a s (not-false (is_labelled a) (level_taken (scalar_type a) h).labelled)
   drawn_is_of (array_type a) h s = drawn_is_array a s
   drawn_is_of (group_type ts) h s = drawn_are_of ts h.1 s
   drawn_is_of (items_type c t) h s =
@@ -159,7 +148,7 @@ made_heavy t s h = ap (λ b. cond b (blank t) (drawn t s).value) (lt-ltb heavies
 
 -- a value that is made is well typed, and as light as a blank value
 pub made_is : (t : Ty) → IsSound t → (s : ℕ) → IsWellTyped t (made t s) × (weight (made t s) ≤ heaviest_blank)
-made_is t h s = elim (below_or_not heaviest_blank (weight (drawn t s).value)) [
+made_is t h s = elim (cases_lt heaviest_blank (weight (drawn t s).value)) [
   | inl l ↦ rw (made_heavy t s l) (blank_is_well_typed t h, (sound_taken t h).light)
   | inr g ↦ rw (made_light t s g) (record { is_of = drawn_is_of t h s; light = omega arith }, g)
 ]

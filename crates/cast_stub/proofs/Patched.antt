@@ -1,6 +1,6 @@
 -- Octets of which four are written anew are as many.
-use Rattle.std.proofs.Common.{◌≡◌, ℕ, ◌+◌, ◌-◌, ◌%◌, ◌^◌, ◌≤◌, List, ◌++◌, length, take, drop, Option, Some, None, Bool, true, false, nat_le, ◌&&◌, if◌then◌else◌, refl, sym, ap, ◌∙◌, arith, length-append, length-drop}
-use Rattle.std.proofs.lemmas.Bool.{leb-true}
+use Rattle.std.proofs.Common.{◌≡◌, ℕ, ◌+◌, ◌-◌, ◌%◌, ◌^◌, ◌≤◌, List, ◌++◌, length, take, drop, Some, None, Bool, true, false, nat_le, ◌&&◌, if◌then◌else◌, refl, sym, ap, ◌∙◌, arith, length-append, length-drop}
+use Rattle.std.proofs.lemmas.Bool.{leb-true, and_parts}
 use Rattle.std.proofs.lemmas.List.{length-take-le}
 use Rattle.kit_base.specs.Bytes.{written}
 use Rattle.wire_def.specs.declared.head.Order.{Order}
@@ -17,11 +17,6 @@ pub four : (order : Order) (n : ℕ) → length (in_order order 4 n) ≡ 4
 four Big n = refl
 four Little n = refl
 
-tests_hold : (x y : Bool) → (x && y) ≡ true → (x ≡ true) × (y ≡ true)
-tests_hold true true e = (refl, refl)
-tests_hold true false e = absurd cc
-tests_hold false y e = absurd cc
-
 pub patched_length : (base at sub : ℕ) (order : Order) (o x : List ℕ) → patched base at sub order o ≡ Some x → length x ≡ length o
 patched_length base at sub order o x = by_test (nat_le base at && nat_le (at + 4) (base + length o)) refl where
   by_test : (b : Bool) → (nat_le base at && nat_le (at + 4) (base + length o)) ≡ b
@@ -29,7 +24,7 @@ patched_length base at sub order o x = by_test (nat_le base at && nat_le (at + 4
       → length x ≡ length o
   by_test true t e =
       let n = (base + length o + 2 ^ 32 - sub) % 2 ^ 32 in
-      let both = tests_hold (nat_le base at) (nat_le (at + 4) (base + length o)) t in
+      let both = and_parts (nat_le base at) (nat_le (at + 4) (base + length o)) t in
       let low = leb-true base at both.0 in
       let high = leb-true (at + 4) (base + length o) both.1 in
       let same : written o (at - base) (in_order order 4 n) ≡ x = cc in

@@ -1,7 +1,7 @@
 -- What is known of positions: after octets, behind padding, and of two phases, by their remainders.
 use Rattle.std.proofs.Common.{◌≡◌, ℕ, ◌+◌, ◌-◌, ◌*◌, ◌%◌, ◌<◌, Bool, true, false, nat_eq, if◌then◌else◌, ◌&&◌, refl, sym, ap, ◌∙◌, subst, arith}
 use Rattle.std.proofs.Math.Nat.{mod-mod_of_dvd, mod-add-mod}
-use Rattle.std.proofs.lemmas.Bool.{eqb-true}
+use Rattle.std.proofs.lemmas.Bool.{eqb-true, and_parts}
 use Rattle.std.proofs.lemmas.Nat.Gcd.{dvd_of_mod-eq-zero}
 use Rattle.wire_def.specs.Scalars.{gap}
 use Rattle.cast_stub.specs.Steps.{is_width}
@@ -61,11 +61,6 @@ at_aligned ph a p e at = aligned_if ph a p (is_width a) refl e at
 
 -- ---- two phases
 
-and_both : (x y : Bool) → (x && y) ≡ true → (x ≡ true) × (y ≡ true)
-and_both true true e = (refl, refl)
-and_both true false e = absurd cc
-and_both false y e = absurd cc
-
 -- what they agree on
 pub record Agreed (a b : Phase) (m : ℕ) : Type 0 where
   pub first : a.m % m ≡ 0
@@ -74,8 +69,8 @@ pub record Agreed (a b : Phase) (m : ℕ) : Type 0 where
 
 pub agreed : (a b : Phase) (m : ℕ) → agree a b m ≡ true → Agreed a b m
 agreed a b m e =
-    let x = and_both (nat_eq (a.m % m) 0 && nat_eq (b.m % m) 0) (nat_eq (a.r % m) (b.r % m)) e in
-    let y = and_both (nat_eq (a.m % m) 0) (nat_eq (b.m % m) 0) x.0 in
+    let x = and_parts (nat_eq (a.m % m) 0 && nat_eq (b.m % m) 0) (nat_eq (a.r % m) (b.r % m)) e in
+    let y = and_parts (nat_eq (a.m % m) 0) (nat_eq (b.m % m) 0) x.0 in
     record {
       first = eqb-true (a.m % m) 0 y.0;
       second = eqb-true (b.m % m) 0 y.1;

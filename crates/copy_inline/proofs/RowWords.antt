@@ -1,5 +1,5 @@
 -- Numbers that a loop puts one by one, and the row's octets, by induction on the numbers.
-use Rattle.std.proofs.Common.{◌≡◌, ℕ, ℤ, List, [], ◌∷◌, ◌++◌, length, map, replicate, reverse, Option, None, Some, option_map, refl, sym, ap, subst, ◌∙◌, Bool, true, false, IsTrue, ◌&&◌}
+use Rattle.std.proofs.Common.{◌≡◌, ℕ, ℤ, List, [], ◌∷◌, ◌++◌, length, map, replicate, reverse, Option, None, Some, option_map, refl, sym, ap, subst, ◌∙◌, IsTrue}
 use Rattle.std.specs.List.{list_all}
 use Rattle.mint.specs.declared.kind.Kind.{Kind}
 use Rattle.mint.specs.Kinds.{in_range, word, width}
@@ -18,6 +18,7 @@ use Rattle.cast_stub.specs.Steps.{Step, Stored, Steps, both, chunk_steps, swappe
 use Rattle.cast_stub.proofs.Putting.{placed_whole, full_whole}
 use Rattle.cast_stub.proofs.Widths.{Wide, one, two, four, eight}
 use Rattle.cast_stub.proofs.RowWords.{word_little, word_big}
+use Rattle.std.proofs.lemmas.Bool.{and_parts}
 
 -- ---- one number
 
@@ -98,10 +99,6 @@ wide_pieces o (n ∷ ns) = ap (λ (y : Option (List ℕ)). on_some (puts.word 4 
 
 -- ---- the image
 
-both_true : (a b : Bool) → IsTrue (a && b) → IsTrue a × IsTrue b
-both_true true b e = (refl, e)
-both_true false b e = absurd cc
-
 one_image : (x : Option (List ℕ)) (a : List ℕ) (y : Option (List (List ℕ))) (b : List ℕ) → x ≡ Some a → option_map together y ≡ Some b
     → option_map together (on_some x (λ a. on_some y (λ ps. Some (a ∷ ps)))) ≡ Some (a ++ b)
 one_image x a y b e f = sym (wide_one x y)
@@ -112,7 +109,7 @@ pub image_pieces : (k : Kind) (ns : List ℤ) → IsTrue (list_all (in_range k) 
     → option_map together (pieces (width k) Little ns) ≡ Some (image_of k ns)
 image_pieces k [] h = refl
 image_pieces k (n ∷ ns) h =
-    let b = both_true (in_range k n) (list_all (in_range k) ns) h in
+    let b = and_parts (in_range k n) (list_all (in_range k) ns) h in
     one_image (puts.word (width k) Little n) (octets_of k n) (pieces (width k) Little ns) (image_of k ns) (word_little k n b.0)
     (image_pieces k ns b.1)
 
@@ -120,7 +117,7 @@ pub swapped_pieces : (k : Kind) (ns : List ℤ) → IsTrue (list_all (in_range k
     → option_map together (pieces (width k) Big ns) ≡ Some (swapped k ns)
 swapped_pieces k [] h = refl
 swapped_pieces k (n ∷ ns) h =
-    let b = both_true (in_range k n) (list_all (in_range k) ns) h in
+    let b = and_parts (in_range k n) (list_all (in_range k) ns) h in
     one_image (puts.word (width k) Big n) (reverse (octets_of k n)) (pieces (width k) Big ns) (swapped k ns) (word_big k n b.0)
     (swapped_pieces k ns b.1)
 

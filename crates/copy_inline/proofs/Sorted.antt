@@ -1,9 +1,9 @@
 -- How wide the numbers of each sort are.
-use Rattle.std.proofs.Common.{◌≡◌, ◌⊎◌, inl, inr, ℕ, ℤ, List, [], ◌∷◌, Option, None, Some, refl, sym, ap, subst, ◌∙◌, Bool, true, false, IsTrue, ◌&&◌, if◌then◌else◌}
+use Rattle.std.proofs.Common.{◌≡◌, ◌⊎◌, inl, inr, ℕ, ℤ, List, [], ◌∷◌, Option, None, Some, refl, sym, ap, subst, ◌∙◌, Bool, true, false, IsTrue, if◌then◌else◌}
 use Rattle.std.specs.Prelude.{nat_eq}
 use Rattle.std.specs.List.{list_all}
 use Rattle.std.specs.Int.{Width, byte_len}
-use Rattle.std.proofs.lemmas.Bool.{eqb-true, eq-eqb}
+use Rattle.std.proofs.lemmas.Bool.{eqb-true, eq-eqb, and_parts, and_from}
 use Rattle.mint.specs.declared.kind.Kind.{Kind}
 use Rattle.mint.specs.declared.kind.Kind.TheVariants as kind
 use Rattle.mint.specs.Kinds.{in_range, is_letter, width}
@@ -145,20 +145,11 @@ image_width a = by (kind_of a) where
 
 -- ---- the numbers of an array
 
-both_true : (a b : Bool) → IsTrue (a && b) → IsTrue a × IsTrue b
-both_true true b e = (refl, e)
-both_true false b e = absurd cc
-
-both_are : (a b : Bool) → IsTrue a → IsTrue b → IsTrue (a && b)
-both_are true true e f = refl
-both_are true false e f = absurd cc
-both_are false b e f = absurd cc
-
 letters_ranged : (ns : List ℤ) → IsTrue (list_all is_letter ns) → IsTrue (list_all (in_range kind.Char) ns)
 letters_ranged [] h = refl
 letters_ranged (n ∷ ns) h =
-    let b = both_true (is_letter n) (list_all is_letter ns) h in
-    both_are (in_range kind.Char n) (list_all (in_range kind.Char) ns) (both_true (in_range kind.Char n) _ b.0).0 (letters_ranged ns b.1)
+    let b = and_parts (is_letter n) (list_all is_letter ns) h in
+    and_from (in_range kind.Char n) (list_all (in_range kind.Char) ns) (and_parts (in_range kind.Char n) _ b.0).0 (letters_ranged ns b.1)
 
 pub array_ranged : (a : Array) (k : Kind) (ns : List ℤ) → IsArray a k ns → (k ≡ kind_of a) × IsTrue (list_all (in_range (kind_of a)) ns)
 array_ranged (text c) k ns h = (h.0, letters_ranged ns h.2)

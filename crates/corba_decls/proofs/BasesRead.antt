@@ -26,6 +26,7 @@ use Rattle.corba_decls.specs.declared.type_tree.Base.{Base}
 use Rattle.corba_decls.specs.declared.type_tree.Base.TheVariants as B
 use Rattle.corba_decls.specs.TypeSpelling.{size, int, simple_spell, close, base, bound}
 use Rattle.corba_decls.specs.TypeReaders.{size_of, size_at, int_of, int_at, is_int, simple_words, is_simple, is_long_double, plain_of, plain_at, close_in, string_of, string_at, Typed, base_of, base_at, bound_at}
+use Rattle.std.proofs.lemmas.Bool.{and_left}
 
 -- ---- integer types
 
@@ -181,9 +182,6 @@ is_double u front rest s =
     let b = one_kind p.1 (K.Name (codes "double")) (p.4 ∙ s.4) in
     rw (p.2, a.1, b.1, a.2, b.2) refl
 
-and_false : (a b : Bool) → a ≡ false → (a && b) ≡ false
-and_false a b h = rw h refl
-
 no_double_size : (i : IntSize) (front rest : List Token) → size i (kinds front) → begins_with (word_is (codes "double")) rest ≡ false
     → is_long_double (front ++ rest) ≡ false
 no_double_size Short front rest s may = let a = one_kind front (K.Name (codes "short")) s in rw (a.1, a.2) refl
@@ -198,7 +196,7 @@ no_double_int : (x : IntSize ⊎ IntSize) (front rest : List Token) → int_text
     → begins_with (word_is (codes "double")) rest ≡ false
     → is_long_double (front ++ rest) ≡ false
 no_double_int (inl i) front rest s may =
-    and_false _ _ (begins_not (word_is (codes "long")) (leads_after size (leads_word (codes "unsigned")))
+    and_left _ _ (begins_not (word_is (codes "long")) (leads_after size (leads_word (codes "unsigned")))
     (apart_word (word_is (codes "unsigned")) (codes "long") refl) i front rest s)
 no_double_int (inr i) front rest s may = no_double_size i front rest s may
 
@@ -207,7 +205,7 @@ no_double : (x : Int ⊎ ScopedName) (front rest : List Token) → one_of int sc
 no_double (inl i) front rest s may = let b = int_back i (kinds front) s in no_double_int b.0 front rest b.2
     (no_word (codes "double") refl rest may)
 no_double (inr n) front rest s may =
-    and_false _ _ (begins_not (word_is (codes "long")) leads_scoped (apart_word is_name (codes "long") refl) n front rest s)
+    and_left _ _ (begins_not (word_is (codes "long")) leads_scoped (apart_word is_name (codes "long") refl) n front rest s)
 
 pub plain_is : IsGrammar plain_at plain_base Closes
 unfolding plain_at

@@ -29,6 +29,7 @@ use Rattle.corba_decls.specs.declared.member_tree.Exception.{Exception}
 use Rattle.corba_decls.specs.declared.member_tree.Enum.{Enum}
 use Rattle.corba_decls.specs.MemberSpelling.{dimension, declarator, member, structure, exception, enumeration}
 use Rattle.corba_decls.specs.MemberReaders.{dimension_of, dimension_at, has_dimension, declarator_of, declarator_at, member_of, member_at, structure_of, structure_at, exception_of, exception_at, enumeration_of, enumeration_at}
+use Rattle.std.proofs.lemmas.Bool.{or_right, or_left}
 
 -- a mark after which no expression goes on
 apart_bracket : Apart (mark_is (codes "[")) is_joint
@@ -39,14 +40,6 @@ apart_comma k e = let is = mark_named (codes ",") k e in rw is refl
 
 pub apart_semicolon : Apart (mark_is (codes ";")) is_joint
 apart_semicolon k e = let is = mark_named (codes ";") k e in rw is refl
-
-or_right : (a b : Bool) → b ≡ true → (a || b) ≡ true
-or_right true b e = refl
-or_right false b e = e
-
-or_left : (a b : Bool) → a ≡ true → (a || b) ≡ true
-or_left true b e = refl
-or_left false b e = absurd cc
 
 leads_type_of : (n : ℕ) (bounds : List (Option Tree)) (b : Base) (ks : List TokenKind) → type n bounds b false ks
     → (k : TokenKind) × (more : List TokenKind) × (ks ≡ k ∷ more)

@@ -1,5 +1,5 @@
 -- Attributes: what is read is what is spelled.
-use Rattle.std.proofs.Common.{◌≡◌, ℕ, zero, suc, List, [], ◌∷◌, ◌++◌, Option, Bool, true, false, ◌||◌, refl, sym, ap, subst, ◌∙◌, append_assoc}
+use Rattle.std.proofs.Common.{◌≡◌, ℕ, zero, suc, List, [], ◌∷◌, ◌++◌, Option, true, false, refl, sym, ap, subst, ◌∙◌, append_assoc}
 use Rattle.std.specs.Prelude.{codes}
 use Rattle.idl_lex.specs.declared.kinds.Token.{Token}
 use Rattle.idl_lex.specs.declared.kinds.TokenKind.{TokenKind}
@@ -23,16 +23,9 @@ use Rattle.corba_syntax.specs.declared.operation_tree.Attribute.{Attribute}
 use Rattle.corba_syntax.specs.OperationSpelling.{type_text, attribute}
 use Rattle.corba_syntax.specs.OperationReaders.{is_attribute, attribute_of, attribute_at}
 use Rattle.corba_syntax.proofs.PartsRead.{word_flag_reads}
+use Rattle.std.proofs.lemmas.Bool.{or_right, or_left}
 
 -- ---- what a type begins with, and what follows it
-
-or_right : (a b : Bool) → b ≡ true → (a || b) ≡ true
-or_right true b e = refl
-or_right false b e = e
-
-or_left : (a b : Bool) → a ≡ true → (a || b) ≡ true
-or_left true b e = refl
-or_left false b e = absurd cc
 
 leads_type_of : (n : ℕ) (bounds : List (Option Tree)) (b : Base) (ks : List TokenKind) → type n bounds b false ks
     → (k : TokenKind) × (more : List TokenKind) × (ks ≡ k ∷ more) × (is_type k ≡ true)

@@ -28,9 +28,7 @@ use Rattle.json_shape.specs.Replies.{raise_name, given_members, after_members, a
 use Rattle.json_shape.specs.Requests.{head_json, request_json}
 use Rattle.json_shape.specs.Texts.{text_of}
 use Rattle.json_shape.specs.Written.{number_tree, number_json, sign_json, each_json, row_json, items_json, json_of, in_order_json, by_name_json, after_json}
-
-neither : (a b : Bool) → a ≡ false → b ≡ false → (a || b) ≡ false
-neither a b p q = rw (p, q) refl
+use Rattle.std.proofs.lemmas.Bool.{or_from}
 
 no-float-first : (a b : Bool) → (a || b) ≡ false → a ≡ false
 no-float-first false b h = refl
@@ -48,14 +46,14 @@ choice Greater a b c p q r = r
 
 put-float : (k : List ℕ) (d : Data) (ms : Members) → has_float d ≡ false → members_have_float ms ≡ false
     → members_have_float (put k d ms) ≡ false
-put-float k d no_members p q = neither (has_float d) false p refl
+put-float k d no_members p q = or_from (has_float d) false p refl
 put-float k d (member l e ms) p q =
     let first = no-float-first (has_float e) (members_have_float ms) q in
     let later = no-float-rest (has_float e) (members_have_float ms) q in
     choice (slice_cmp nat_cmp k l) (member k d (member l e ms)) (member l d ms) (member l e (put k d ms))
-    (neither (has_float d) (members_have_float (member l e ms)) p q)
-    (neither (has_float d) (members_have_float ms) p later)
-    (neither (has_float e) (members_have_float (put k d ms)) first (put-float k d ms p later))
+    (or_from (has_float d) (members_have_float (member l e ms)) p q)
+    (or_from (has_float d) (members_have_float ms) p later)
+    (or_from (has_float e) (members_have_float (put k d ms)) first (put-float k d ms p later))
 
 integer-float : (z : ℤ) → is_float (of_integer z) ≡ false
 integer-float (pos n) = refl
@@ -87,7 +85,7 @@ sign-float (face.item is) n = refl
 
 each-float : (k : Kind) (ns : List ℤ) → items_have_float (each_json k ns) ≡ false
 each-float k [] = refl
-each-float k (n ∷ ns) = neither (has_float (number_json k n)) (items_have_float (each_json k ns)) (number-float k n) (each-float k ns)
+each-float k (n ∷ ns) = or_from (has_float (number_json k n)) (items_have_float (each_json k ns)) (number-float k n) (each-float k ns)
 
 row-float : (k : Kind) (ns : List ℤ) → has_float (row_json k ns) ≡ false
 row-float kind.Octet ns = refl
@@ -104,7 +102,7 @@ row-float kind.Bool ns = each-float kind.Bool ns
 
 list-float : (f : Val → Data) → ((v : Val) → has_float (f v) ≡ false) → (vs : Vals) → items_have_float (items_json f vs) ≡ false
 list-float f all no_more = refl
-list-float f all (val v vs) = neither (has_float (f v)) (items_have_float (items_json f vs)) (all v) (list-float f all vs)
+list-float f all (val v vs) = or_from (has_float (f v)) (items_have_float (items_json f vs)) (all v) (list-float f all vs)
 
 mutual
   json-float : (f : Face) (v : Val) → has_float (json_of f v) ≡ false
@@ -160,7 +158,7 @@ mutual
   json-float (face.choice s arms) absent = refl
   json-float (face.choice s arms) (present v) = refl
   json-float (face.maybe f) absent = refl
-  json-float (face.maybe f) (present v) = neither (has_float (json_of f v)) false (json-float f v) refl
+  json-float (face.maybe f) (present v) = or_from (has_float (json_of f v)) false (json-float f v) refl
   json-float (face.maybe f) void = refl
   json-float (face.maybe f) (num n) = refl
   json-float (face.maybe f) (row k ns) = refl
@@ -172,7 +170,7 @@ mutual
   order-float no_parts vs = refl
   order-float (part n f ps) no_more = refl
   order-float (part n f ps) (val v vs) =
-      neither (has_float (json_of f v)) (items_have_float (in_order_json ps vs)) (json-float f v) (order-float ps vs)
+      or_from (has_float (json_of f v)) (items_have_float (in_order_json ps vs)) (json-float f v) (order-float ps vs)
 
   names-float : (ps : Parts) (vs : Vals) → members_have_float (by_name_json ps vs) ≡ false
   names-float no_parts vs = refl
@@ -259,12 +257,12 @@ says-float (refusal.RpcMismatch low high) = refl
 says-float (refusal.AuthError status) = refl
 says-float (refusal.SystemException id minor completion) = refl
 says-float (refusal.UserException id) = refl
-says-float (refusal.RetCode code) = neither (is_float (of_integer code)) false (integer-float code) refl
+says-float (refusal.RetCode code) = or_from (is_float (of_integer code)) false (integer-float code) refl
 
 refused-float : (why : Refusal) → members_have_float (refused_members why) ≡ false
 refused-float why =
     put-float (codes "refused") (array (refusal_json why)) no_members
-    (neither false (items_have_float (refusal_says why)) refl (says-float why)) refl
+    (or_from false (items_have_float (refusal_says why)) refl (says-float why)) refl
 
 outcome-float : (rs : List PlainRaise) (f : Face) (o : Outcome) → members_have_float (outcome_members rs f o) ≡ false
 outcome-float rs f (Answer v) = answer-float rs f (seen v)

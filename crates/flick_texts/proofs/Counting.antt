@@ -3,9 +3,9 @@ use Rattle.std.proofs.Common.{◌≡◌, ℕ, zero, suc, ◌+◌, ◌-◌, ◌*�
 use Rattle.std.specs.Prelude.{if◌then◌else◌}
 use Rattle.std.proofs.lemmas.List.{length-append, append-nil}
 use Rattle.kit_base.specs.Limits.{longest_message}
-use Rattle.stub_print.proofs.Numerals.{below_or_not}
 use Rattle.flick_texts.specs.declared.sums.Sums.{Sums}
 use Rattle.flick_texts.specs.Counted.{messages_from, is_long, count_long, octets_of, folded_with, folded, IsMade, Counts, Counted}
+use Rattle.std.proofs.lemmas.Bool.{cases_lt}
 
 -- the first of the messages that are left
 pub first_left : (message_of : ℕ → List ℕ) (i many : ℕ) → i < many
@@ -91,7 +91,7 @@ counts_more m left all old new one h =
 
 -- a message has few octets that are counted
 pub few_octets : (m : List ℕ) → length (octets_of (m ∷ [])) ≤ longest_message
-few_octets m = elim (below_or_not longest_message (length m)) [
+few_octets m = elim (cases_lt longest_message (length m)) [
   | inl l ↦ rw (octets_long m l) (omega arith)
   | inr g ↦ rw (octets_short m g) g
 ]

@@ -10,22 +10,18 @@ use Rattle.kit_base.specs.declared.lines.Line.TheVariants.{Long}
 use Rattle.kit_base.specs.Lines.{State, Passed, pending, lines, lines_from, lines_after, line_of, HasNoEnd}
 use Rattle.kit_base.proofs.Cutting.{lines-long, lines_after-append}
 use Rattle.flick_top.specs.Items.{has_end, ended_part, IsCutting, by_lines}
-use Rattle.flick_top.specs.declared.items.Item.{Item}
 use Rattle.flick_top.specs.declared.items.Item.TheVariants as items
 use Rattle.flick_top.specs.Giving.{fresh}
+use Rattle.std.proofs.lemmas.Bool.{or_parts}
 
 none-ended : (xs : List ℕ) → has_end xs ≡ false → ended_part xs ≡ []
 none-ended [] h = refl
 none-ended (x ∷ xs) h = rw h
 
-or-false : (a b : Bool) → (a || b) ≡ false → (a ≡ false) × (b ≡ false)
-or-false true b h = absurd (cc h)
-or-false false b h = (refl, h)
-
 no_end : (xs : List ℕ) → has_end xs ≡ false → HasNoEnd xs
 no_end [] h = All-nil (λ (x : ℕ). x ≢ 10)
 no_end (x ∷ xs) h =
-    let (here, rest) = or-false (x == 10) (has_end xs) h in
+    let (here, rest) = or_parts (x == 10) (has_end xs) h in
     let other : x ≢ 10 = grind (arith, nat_tests, here) in
     All-cons (λ (y : ℕ). y ≢ 10) x xs other (no_end xs rest)
 

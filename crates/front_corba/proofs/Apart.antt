@@ -3,7 +3,7 @@ use Rattle.std.proofs.Common.{◌≡◌, ℕ, ◌+◌, ◌<◌, Bool, true, fals
 use Rattle.std.specs.List.{list_any}
 use Rattle.std.specs.Str.{bytes_eq}
 use Rattle.std.specs.Bool.{one_answer}
-use Rattle.std.proofs.lemmas.Bool.{ne_eqb, or_parts, or_from, and_parts}
+use Rattle.std.proofs.lemmas.Bool.{ne_eqb, or_parts, or_from, and_parts, not-true, and_left}
 use Rattle.std.proofs.lemmas.Slice.Eq.{bytes_eq-Decides}
 use Rattle.aoi.specs.declared.interfaces.Interface.{Interface}
 use Rattle.aoi.specs.Units.{is_twice}
@@ -24,14 +24,6 @@ turned : (a b : List ℕ) → bytes_eq a b ≡ bytes_eq b a
 turned a b = one_answer (bytes_eq a b) (bytes_eq b a) (bytes_eq-Decides a b)
     (let d = bytes_eq-Decides b a in (λ t. sym (d.0 t), λ e. d.1 (sym e)))
 
-not_both : (a b : Bool) → a ≡ false → (a && b) ≡ false
-not_both true b h = absurd cc
-not_both false b h = refl
-
-not_false : (b : Bool) → not b ≡ true → b ≡ false
-not_false true h = absurd cc
-not_false false h = refl
-
 -- the parts of two lists that are equal
 head_same : (x y : PlainInterface) (xs ys : List PlainInterface) → x ∷ xs ≡ y ∷ ys → (x ≡ y) × (xs ≡ ys)
 head_same x y xs ys h = (cc h, cc h)
@@ -41,7 +33,7 @@ two_apart : (k place : ℕ) (i j : PlainOffering) → k < place → bytes_eq j.n
     → twins (interface k i) (interface place j) ≡ false
 two_apart k place i j lt h =
     let other : (536870912 + k == 536870912 + place) ≡ false = ne_eqb (536870912 + k) (536870912 + place) (λ e. omega (arith, lt, e)) in
-    or_from _ _ (turned i.name j.name ∙ h) (not_both (536870912 + k == 536870912 + place) true other)
+    or_from _ _ (turned i.name j.name ∙ h) (and_left (536870912 + k == 536870912 + place) true other)
 
 -- an interface and one of those after it
 later : (k place : ℕ) (i : PlainOffering) (is : List PlainOffering) (xs ys : List PlainInterface) (y : PlainInterface)
@@ -66,7 +58,7 @@ none_before k [] (x ∷ xs) ys y e h = absurd cc
 none_before k (i ∷ is) (x ∷ xs) ys y e h =
     let parts = and_parts (not (list_any (λ m. bytes_eq m i.name) (full_names is))) (are_distinct (full_names is)) h in
     let same = head_same x (interface k i) (xs ++ y ∷ ys) (interfaces (k + 1) is) e in
-    let first = later k (k + 1) i is xs ys y same.1 (omega arith) (not_false _ parts.0) in
+    let first = later k (k + 1) i is xs ys y same.1 (omega arith) (not-true _ parts.0) in
     or_from _ _ (subst (λ z. twins z y ≡ false) (sym same.0) first) (none_before (k + 1) is xs ys y same.1 parts.1)
 
 -- the same in the unit

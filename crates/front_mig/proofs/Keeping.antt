@@ -1,7 +1,7 @@
 -- Every statement keeps what makes a unit sound, by induction on the statements.
 use Rattle.std.proofs.Common.{◌≡◌, ℕ, ◌+◌, ◌<◌, ◌≤◌, Bool, true, false, not, ◌&&◌, nat_le, List, [], ◌∷◌, ◌++◌, length, map, refl, sym, ap, subst, ◌∙◌, arith}
 use Rattle.std.specs.Prelude.{Ok}
-use Rattle.std.proofs.lemmas.Bool.{and_from, and_parts, lt-ltb, ltb-true}
+use Rattle.std.proofs.lemmas.Bool.{and_from, and_parts, lt-ltb, ltb-true, not-false}
 use Rattle.std.proofs.lemmas.List.{length-append, length-map}
 use Rattle.aoi.specs.declared.faults.NameFault.TheVariants.{Twice, Range, Limit, Oneway, Port}
 use Rattle.aoi.specs.Shapes.{Shape, void, number, enumeration, text, array, structure, choice, optional, named, Members, no_more, member, members_of}
@@ -209,10 +209,6 @@ type_keeps base d s out name t is h =
     subst (StateIs base) (ok_same (with_form name f.given s) out f.rest)
     (form_added base s name f.given is (form_is (length s.types) s.scope d t f.given is.scope f.first))
 
-pub not_false : (b : Bool) → not b ≡ false → b ≡ true
-not_false true h = refl
-not_false false h = absurd cc
-
 -- one message id more, and nothing else
 pub record Skips (base : ℕ) (s t : State) : Type 0 where
   pub same : t ≡ record s { slots = s.slots + 1 }
@@ -222,7 +218,7 @@ skip_is : (base d : ℕ) (s out : State) → skip_on d base s ≡ Ok out → Ski
 skip_is base d s out h =
     let a = then_ok (refused Range d (not (ids_fit base (s.slots + 1)))) _ out h in
     let next : State = record s { slots = s.slots + 1 } in
-    record { same = sym (ok_same next out a.rest); ids = not_false _ (refused_ok Range d _ a.given a.first) }
+    record { same = sym (ok_same next out a.rest); ids = not-false _ (refused_ok Range d _ a.given a.first) }
 
 skip_keeps : (base d : ℕ) (s out : State) → StateIs base s → skip_on d base s ≡ Ok out → StateIs base out
 skip_keeps base d s out is h =

@@ -2,7 +2,7 @@
 use Rattle.std.proofs.Common.{◌≡◌, ℕ, true, not, nat_le, List, [], ◌∷◌, length, refl, sym, ap, subst, ◌∙◌}
 use Rattle.std.specs.Prelude.{Result, Ok, Err, IfOk}
 use Rattle.std.specs.List.{list_all}
-use Rattle.std.proofs.lemmas.Bool.{and_from, lt-ltb}
+use Rattle.std.proofs.lemmas.Bool.{and_from, lt-ltb, not-false}
 use Rattle.std.proofs.lemmas.List.{length-map}
 use Rattle.aoi.specs.declared.faults.NameErr.{NameErr}
 use Rattle.aoi.specs.declared.faults.NameFault.TheVariants.{Range}
@@ -20,7 +20,7 @@ use Rattle.front_mig.specs.State.{State, start}
 use Rattle.front_mig.specs.Resolved.{stated_on, unit_of, resolved}
 use Rattle.idl_names.proofs.Parts.{then_ok, refused_ok, ok_same}
 use Rattle.front_mig.proofs.Standing.{types_sound}
-use Rattle.front_mig.proofs.Keeping.{OperationIs, OperationsAre, members_sound, not_false, shapes_of, StateIs, statements_keep}
+use Rattle.front_mig.proofs.Keeping.{OperationIs, OperationsAre, members_sound, shapes_of, StateIs, statements_keep}
 
 operation_sound : (types : List Shape) (slots : ℕ) (o : PlainOperation) → OperationIs (length types) slots o
     → is_sound_plain_operation types slots o ≡ true
@@ -51,7 +51,7 @@ base_fits d e base h =
     let a = then_ok (value d e) _ base h in
     let b = then_ok (natural 0 d a.given) _ base a.rest in
     let c = then_ok (refused Range d (not (ids_fit b.given 0))) _ base b.rest in
-    subst (λ z. ids_fit z 0 ≡ true) (ok_same b.given base c.rest) (not_false _ (refused_ok Range d _ c.given c.first))
+    subst (λ z. ids_fit z 0 ≡ true) (ok_same b.given base c.rest) (not-false _ (refused_ok Range d _ c.given c.first))
 
 pub resolved_sound : (tree : Subsystem) (u : PlainUnit) → resolved tree ≡ Ok u → is_sound_plain u ≡ true
 resolved_sound tree u h =

@@ -1,5 +1,5 @@
 -- An interface among others, as plain trees.
-use Rattle.std.proofs.Common.{◌≡◌, ℕ, ◌+◌, Bool, true, false, List, [], ◌∷◌, ◌++◌, map, ◌↔◌, refl, sym, ap, ◌∙◌}
+use Rattle.std.proofs.Common.{◌≡◌, ℕ, ◌+◌, true, false, List, [], ◌∷◌, ◌++◌, map, ◌↔◌, refl, sym, ap, ◌∙◌}
 use Rattle.std.specs.Prelude.{Result, Ok, Err}
 use Rattle.std.specs.List.{list_any}
 use Rattle.aoi.specs.declared.interfaces.Interface.{Interface}
@@ -12,13 +12,10 @@ use Rattle.idl_names.specs.Answers.{fault}
 use Rattle.idl_names.proofs.Tables.{any_map, append_map}
 use Rattle.front_onc.specs.Held.{Held, state}
 use Rattle.front_onc.specs.Programs.{offered, are_twins}
+use Rattle.std.proofs.lemmas.Bool.{false_from_ne_true}
 
 twins : (i : Interface) (is : List Interface) → list_any (λ j. are_twins j (plain_interface i)) (map plain_interface is) ≡ is_twice i is
 twins i is = sym (any_map (λ j. are_twins j (plain_interface i)) plain_interface is)
-
-not_true : (b : Bool) → (b ≡ true → ⊥) → b ≡ false
-not_true true f = absurd (f refl)
-not_true false f = refl
 
 pub offer_ok : (d : ℕ) (i : Interface) (h now : Held) (unit : Parts) (r : Result (Unit {0}) UnitErr) (x : Unit {0})
     → (r ≡ Err err.Twice) ↔ (is_twice i h.unit.interfaces ≡ true) → r ≡ Ok x
@@ -26,7 +23,7 @@ pub offer_ok : (d : ℕ) (i : Interface) (h now : Held) (unit : Parts) (r : Resu
     → offered d (plain_interface i) (state now) ≡ Ok (state (record h { unit = unit; versions = h.versions + 1 }))
 offer_ok d i h now unit r x twice ok is view =
     let none : list_any (λ j. are_twins j (plain_interface i)) (map plain_interface h.unit.interfaces) ≡ false =
-    twins i h.unit.interfaces ∙ not_true (is_twice i h.unit.interfaces) (λ t. let no = sym ok ∙ twice.1 t in absurd cc) in
+    twins i h.unit.interfaces ∙ false_from_ne_true (is_twice i h.unit.interfaces) (λ t. let no = sym ok ∙ twice.1 t in absurd cc) in
     let here : offered d (plain_interface i) (state h) ≡ Ok (state (record h { unit = unit; versions = h.versions + 1 })) =
     rw (none, is)
     (ap (λ z.

@@ -2,7 +2,7 @@
 use Rattle.std.proofs.Common.{◌≡◌, ◌<◌, ◌≤◌, ◌&&◌, Bool, true, false, not, ℕ, zero, suc, ℤ, pos, List, [], ◌∷◌, ◌++◌, map, length, Option, Some, None, refl, sym, ap, ◌∙◌, subst, arith, nat_le, slice_get, slice_index_or}
 use Rattle.std.specs.List.{AllByRecursion, list_all}
 use Rattle.std.specs.Prelude.{if◌then◌else◌}
-use Rattle.std.proofs.lemmas.Bool.{leb-true}
+use Rattle.std.proofs.lemmas.Bool.{leb-true, not-false, and_parts}
 use Rattle.std.proofs.lemmas.List.{map-append}
 use Rattle.std.proofs.lemmas.Simd.{map-map}
 use Rattle.mint.specs.declared.node.Node.{Node}
@@ -18,7 +18,7 @@ use Rattle.aoi.specs.Plain.{PlainRaise, PlainInterface, PlainOperation}
 use Rattle.pres.specs.declared.ops.Op.{Op}
 use Rattle.pres.specs.Bindings.{Binding, IsBinding, IsPlaced}
 use Rattle.pres.specs.Faces.{Face, at, faces, type_of, arm_types_of}
-use Rattle.pres.specs.Offers.{Offer, operations, offer, offers_from, offer_at, answer_of, reply_of, raised, type_faces, null_operation, gets_null, gotten}
+use Rattle.pres.specs.Offers.{Offer, operations, offer, offers_from, offer_at, answer_of, reply_of, raised, type_faces, null_operation, gets_null}
 use Rattle.pres.specs.Raises.{raises, raises_of, source, sources, sources_of}
 use Rattle.pres.proofs.Facing.{type_at-face}
 use Rattle.head_arms.specs.Raised.{exceptions}
@@ -105,15 +105,6 @@ node_count us [] None = refl
 node_count us [] (Some i) = refl
 node_count us (a ∷ arms) o = ap suc (node_count us arms o)
 
-not_false : (p : Bool) → not p ≡ false → p ≡ true
-not_false true h = refl
-not_false false h = absurd cc
-
-both : (p q : Bool) → (p && q) ≡ true → (p ≡ true) × (q ≡ true)
-both true true h = (refl, refl)
-both true false h = absurd cc
-both false q h = absurd cc
-
 raised_count : (fs : List Face) (k : ℕ) (rs : List PlainRaise) → length (arm_numbers (arm_types_of (raised fs k rs))) ≡ length rs
 raised_count fs k [] = refl
 raised_count fs k (r ∷ rs) = ap suc (raised_count fs (suc k) rs)
@@ -122,9 +113,9 @@ raised_count fs k (r ∷ rs) = ap suc (raised_count fs (suc k) rs)
 few : (s : Scalar) (arms : Arms) → IsSound (choice_type s arms) → length (arm_numbers arms) ≤ 4096
 few s arms sound =
     let ns : List ℤ = arm_numbers arms in
-    let a = both (is_labelled s) (are_arms s arms) (not_false _ (sound_taken (choice_type s arms) sound).labelled) in
-    let b = both (are_tagged s ns) (not (is_armless arms)) a.1 in
-    let c = both (nat_le (length ns) 4096) (rise_from None ns && list_all (is_scalar s) ns) b.0 in
+    let a = and_parts (is_labelled s) (are_arms s arms) (not-false _ (sound_taken (choice_type s arms) sound).labelled) in
+    let b = and_parts (are_tagged s ns) (not (is_armless arms)) a.1 in
+    let c = and_parts (nat_le (length ns) 4096) (rise_from None ns && list_all (is_scalar s) ns) b.0 in
     leb-true (length ns) 4096 c.0
 
 module _ (b : Binding) (op : ℕ) (stands : IsBinding b) (h : op < length b.ops) where

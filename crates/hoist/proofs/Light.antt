@@ -1,5 +1,5 @@
 -- What the code of a small part adds, by induction on its type.
-use Rattle.std.proofs.Common.{◌≡◌, ℕ, zero, suc, ◌+◌, ◌-◌, ◌≤◌, ℤ, List, [], ◌∷◌, ◌++◌, length, Option, None, Some, refl, sym, ap, subst, ◌∙◌, arith, Bool, true, false, ◌&&◌, ◌||◌, if◌then◌else◌}
+use Rattle.std.proofs.Common.{◌≡◌, ℕ, zero, suc, ◌+◌, ◌-◌, ◌≤◌, ℤ, List, [], ◌∷◌, ◌++◌, length, Option, None, Some, refl, sym, ap, subst, ◌∙◌, arith, Bool, true, ◌||◌, if◌then◌else◌}
 use Rattle.mint.specs.declared.kind.Count.{Count}
 use Rattle.mint.specs.declared.kind.Count.TheVariants.{Exactly, AtMost, Any}
 use Rattle.mint.specs.Types.{Ty, void_type, scalar_type, array_type, group_type, items_type, choice_type, maybe_type, Tys, no_fields, field}
@@ -10,7 +10,7 @@ use Rattle.cast_stub.specs.Block.{Block, stop, align, chunk, each, switch, if_th
 use Rattle.cast_stub.specs.Append.{append}
 use Rattle.cast_stub.specs.Steps.{Steps, both, over, if_present, Calls, steps, case_steps, chunk_steps, align_steps}
 use Rattle.cast_stub.specs.Follows as follows
-use Rattle.cast_stub.specs.Follows.{IsFlat, IsCount, Going, Child, Follows, FieldsFollow, ArmsFollow}
+use Rattle.cast_stub.specs.Follows.{IsCount, Follows, FieldsFollow}
 use Rattle.cast_stub.specs.Subs.{no_subs}
 use Rattle.cast_stub.specs.PartTypes.{ty_at, element_at, present_at, arms_at}
 use Rattle.cast_stub.proofs.Appending.{append-assoc}
@@ -23,6 +23,7 @@ use Rattle.hoist.proofs.Weighing.{spent, weigh, weigh_less, weigh_quiet, low, hi
 use Rattle.cast_stub.proofs.Followed.{own}
 use Rattle.hoist.proofs.Quiet.{quiet, case_quiet, quiet_over, quiet_present, quiet_on, quiet_chunk, quiet_align, mapped, bare, arms_bare, flat_bare}
 use Rattle.hoist.proofs.Ways.{AreFrom, from-first, from-next, from-head, ty-field, way-field, loop_bound, array_there, items_there, choice_there, maybe_there}
+use Rattle.std.proofs.lemmas.Bool.{and_parts}
 
 pub loop_small : (role : Role) (n u : Option ℕ) (p : List ℕ) (k : ℕ) → role ≡ is_small k → IsThere n
     → (m : ℕ) × (loop_plan role n u p ≡ small m k)
@@ -42,10 +43,6 @@ pub high_same : (p : Pending) → high (raised 0 p) ≤ high p
 high_same nothing = omega arith
 high_same (octets m j) = omega arith
 high_same (row p u m) = omega arith
-
-and_parts : (a b : Bool) → (a && b) ≡ true → (a ≡ true) × (b ≡ true)
-and_parts true b e = (refl, e)
-and_parts false b e = absurd cc
 
 module _ (z : Sizes) (sizes : AreSizes z) (c : Calls) (h : Head) (v : Val) (t0 : Ty) where
   -- a code hoisted, at least and at most

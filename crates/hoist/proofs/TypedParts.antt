@@ -1,5 +1,5 @@
 -- The parts of a value of a type are of the types of the parts, by induction on the path to the part.
-use Rattle.std.proofs.Common.{◌≡◌, ℕ, zero, suc, ℤ, List, [], ◌∷◌, length, map, Option, None, Some, refl, sym, ap, subst, ◌∙◌, Bool, true, false, IsTrue, ◌&&◌}
+use Rattle.std.proofs.Common.{◌≡◌, ℕ, zero, suc, ℤ, List, [], ◌∷◌, length, map, Option, None, Some, refl, sym, ap, subst, ◌∙◌, IsTrue}
 use Rattle.std.specs.List.{list_all}
 use Rattle.mint.specs.declared.kind.Kind.{Kind}
 use Rattle.mint.specs.declared.kind.Kind.TheVariants as kind
@@ -12,6 +12,7 @@ use Rattle.cast_stub.specs.Parts.{on_some, at, in_group, elements_in, length_in}
 use Rattle.cast_stub.specs.Parts as part
 use Rattle.cast_stub.specs.Steps.{Steps, over, if_present}
 use Rattle.cast_stub.specs.PartTypes.{field_type, in_group_type, ty_at, elements_type, present_type, arms_type, element_at, present_at, arms_at}
+use Rattle.std.proofs.lemmas.Bool.{and_parts}
 
 field-typed : (n : ℕ) (ts : Tys) (vs : Vals) (u : Ty) (w : Val) → AreOf ts vs → field_type n ts ≡ Some u → part.field n vs ≡ Some w
     → IsOf u w
@@ -45,17 +46,13 @@ at-typed (n ∷ p) t v u w h e f =
 
 -- ---- elements
 
-both_true : (a b : Bool) → IsTrue (a && b) → IsTrue a × IsTrue b
-both_true true b e = (refl, e)
-both_true false b e = absurd cc
-
 numbers-each : (k : Kind) (ns : List ℤ) → IsTrue (list_all (in_range k) ns) → Each (IsOf (scalar_type (number k))) (vals_of (map num ns))
 numbers-each k [] h = tt
-numbers-each k (n ∷ ns) h = let b = both_true (in_range k n) (list_all (in_range k) ns) h in (b.0, numbers-each k ns b.1)
+numbers-each k (n ∷ ns) h = let b = and_parts (in_range k n) (list_all (in_range k) ns) h in (b.0, numbers-each k ns b.1)
 
 letters-each : (ns : List ℤ) → IsTrue (list_all is_letter ns) → Each (IsOf (scalar_type (number kind.Char))) (vals_of (map num ns))
 letters-each [] h = tt
-letters-each (n ∷ ns) h = let b = both_true (is_letter n) (list_all is_letter ns) h in ((both_true _ _ b.0).0, letters-each ns b.1)
+letters-each (n ∷ ns) h = let b = and_parts (is_letter n) (list_all is_letter ns) h in ((and_parts _ _ b.0).0, letters-each ns b.1)
 
 count-numbers : (ns : List ℤ) → count (vals_of (map num ns)) ≡ length ns
 count-numbers [] = refl

@@ -5,7 +5,7 @@ use Rattle.std.specs.Ordering.{int_eq}
 use Rattle.std.specs.Str.{bytes_eq}
 use Rattle.std.proofs.lemmas.Bool.Decides.{Decides-int_eq}
 use Rattle.std.specs.Bool.{one_answer}
-use Rattle.std.proofs.lemmas.Bool.{or_parts, or_from, and_parts, and_from, not_from_false}
+use Rattle.std.proofs.lemmas.Bool.{or_parts, or_from, and_parts, and_from, not_from_false, not-true}
 use Rattle.aoi.specs.Sound.{are_distinct, are_different, count_different}
 use Rattle.idl_names.specs.Names.{has}
 
@@ -15,16 +15,12 @@ not_added : (p : List ℕ → Bool) (ns : List (List ℕ)) (n : List ℕ) → li
 not_added p [] n a b = or_from _ _ b refl
 not_added p (m ∷ ns) n a b = let h = or_parts _ _ a in or_from _ _ h.0 (not_added p ns n h.1 b)
 
-not_false : (b : Bool) → not b ≡ true → b ≡ false
-not_false true h = absurd cc
-not_false false h = refl
-
 pub distinct_push : (ns : List (List ℕ)) (n : List ℕ) → are_distinct ns ≡ true → has n ns ≡ false → are_distinct (ns ++ n ∷ []) ≡ true
 distinct_push [] n a b = refl
 distinct_push (m ∷ ns) n a b =
     let parts = and_parts (not (list_any (λ k. bytes_eq k m) ns)) (are_distinct ns) a in
     let news = or_parts (bytes_eq n m) (has n ns) b in
-    let none : list_any (λ k. bytes_eq k m) (ns ++ n ∷ []) ≡ false = not_added (λ k. bytes_eq k m) ns n (not_false _ parts.0) news.0 in
+    let none : list_any (λ k. bytes_eq k m) (ns ++ n ∷ []) ≡ false = not_added (λ k. bytes_eq k m) ns n (not-true _ parts.0) news.0 in
     and_from _ _ (not_from_false _ none) (distinct_push ns n parts.1 news.1)
 
 -- ---- numbers
@@ -38,7 +34,7 @@ different_push [] n a b = refl
 different_push (m ∷ ns) n a b =
     let parts = and_parts (not (list_any (λ k. int_eq k m) ns)) (are_different ns) a in
     let news = or_parts (int_eq n m) (list_any (int_eq n) ns) b in
-    let none : list_any (λ k. int_eq k m) (ns ++ n ∷ []) ≡ false = int_not_added (λ k. int_eq k m) ns n (not_false _ parts.0) news.0 in
+    let none : list_any (λ k. int_eq k m) (ns ++ n ∷ []) ≡ false = int_not_added (λ k. int_eq k m) ns n (not-true _ parts.0) news.0 in
     and_from _ _ (not_from_false _ none) (different_push ns n parts.1 news.1)
 
 -- ---- counting

@@ -3,7 +3,7 @@ use Rattle.std.proofs.Common.{◌≡◌, ℕ, ℤ, zero, suc, ◌<◌, ◌≤◌
 use Rattle.std.specs.Prelude.{Ok}
 use Rattle.std.specs.List.{list_any, list_all}
 use Rattle.std.specs.Ordering.{int_eq}
-use Rattle.std.proofs.lemmas.Bool.{or_parts, and_parts, and_from, leb-false, le-leb, lt-ltb}
+use Rattle.std.proofs.lemmas.Bool.{or_parts, and_parts, and_from, leb-false, le-leb, lt-ltb, not-false}
 use Rattle.std.proofs.lemmas.List.{length-append}
 use Rattle.std.proofs.lemmas.List.Folds.{list_all-append}
 use Rattle.kit_base.specs.Limits.{most_labels}
@@ -32,10 +32,6 @@ pub record NumbersAre (labels : List (ℕ × ℤ)) (t : Tag) (ns : List ℤ) : T
   pub few : length ns ≤ most_labels
   pub all : list_all (is_of labels t) ns ≡ true
 
-not_negated : (b : Bool) → not b ≡ false → b ≡ true
-not_negated true h = refl
-not_negated false h = absurd cc
-
 all_push : (p : ℤ → Bool) (ns : List ℤ) (n : ℤ) → list_all p ns ≡ true → p n ≡ true → list_all p (ns ++ n ∷ []) ≡ true
 all_push p [] n a b = and_from _ _ b refl
 all_push p (m ∷ ns) n a b = let h = and_parts (p m) (list_all p ns) a in and_from _ _ h.0 (all_push p ns n h.1 b)
@@ -60,7 +56,7 @@ number_added labels t d ns out n are h =
     let all : NumbersAre labels t (ns ++ n ∷ []) = record {
       different = different_push ns n are.different parts.1;
       few = omega (arith, room, count);
-      all = all_push (is_of labels t) ns n are.all (not_negated _ parts.0);
+      all = all_push (is_of labels t) ns n are.all (not-false _ parts.0);
     } in (
       record { more = n ∷ []; grown = sym same; are = subst (NumbersAre labels t) same all },
       subst (λ z. is_some_list z ≡ true) same (some_push ns n),

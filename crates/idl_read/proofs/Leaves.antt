@@ -9,6 +9,7 @@ use Rattle.idl_lex.specs.declared.kinds.TokenKind.TheVariants.{Name, Number, Mar
 use Rattle.idl_read.specs.Reading.{with_rest, token_at, only_if, word_is, mark_is, word_at, mark_at, number_in, number_at, begins_with, begins_other, is_in, id_in, id_at, is_id}
 use Rattle.idl_read.specs.Grammar.{Text, word, mark, number, id, ◌&◌, one_of, kinds, IsGrammar, Leads, Any}
 use Rattle.idl_read.proofs.Grammars.{read_is}
+use Rattle.std.proofs.lemmas.Bool.{or_right, or_left}
 
 rest_some : {A : Type 0} (ts : List Token) (o : Option A) (a : A) (rest : List Token) → with_rest ts o ≡ Some (a, rest)
     → (o ≡ Some a) × (ts ≡ rest)
@@ -126,14 +127,6 @@ leads_id words n ks s = (Name n, [], s.0, rw s.1 refl)
 
 pub leads_both : {A B : Type 0} {S : A → Text} {f : TokenKind → Bool} (T : B → Text) → Leads S f → Leads {A = A × B} (λ x. S x.0 & T x.1) f
 leads_both T l x ks s = let a = l x.0 s.0 s.3 in (a.0, a.1 ++ s.1, s.2 ∙ ap (λ z. z ++ s.1) a.2, a.3)
-
-or_left : (a b : Bool) → a ≡ true → (a || b) ≡ true
-or_left true b e = refl
-or_left false b e = absurd cc
-
-or_right : (a b : Bool) → b ≡ true → (a || b) ≡ true
-or_right true b e = refl
-or_right false b e = e
 
 pub leads_either : {A B : Type 0} {S : A → Text} {T : B → Text} {f g : TokenKind → Bool} → Leads S f → Leads T g
     → Leads (one_of S T) (λ k. f k || g k)

@@ -10,6 +10,7 @@ use Rattle.idl_read.specs.Reading.{Reader, after, before, either, token_at, word
 use Rattle.idl_read.specs.Grammar.{Text, empty, word, mark, ◌&◌, one_of, maybe, when, kinds, IsGrammar, Leads, Any}
 use Rattle.idl_read.proofs.Grammars.{read_is, mapped_is, both_is, either_is}
 use Rattle.idl_read.proofs.Leaves.{token_is, word_named, mark_named, equal_bytes, word_reads, mark_reads, Apart, apart_word, apart_mark, leads_word, leads_mark, leads_both, begins_so, begins_not}
+use Rattle.std.proofs.lemmas.Bool.{or_right, or_left}
 
 pub weaker : {A : Type 0} {r : Reader A} {S : A → Text} {May May' : List Token → Type 0} → IsGrammar r S May
     → ((rest : List Token) → May' rest → May rest)
@@ -62,14 +63,6 @@ unit_left P ks s = subst P (sym (s.2 ∙ ap (λ z. z ++ s.1) s.3)) s.4
 
 pub unit_left_back : (P : Text) (ks : List TokenKind) → P ks → (empty & P) ks
 unit_left_back P ks s = ([], ks, refl, refl, s)
-
-or_left : (a b : Bool) → a ≡ true → (a || b) ≡ true
-or_left true b e = refl
-or_left false b e = absurd cc
-
-or_right : (a b : Bool) → b ≡ true → (a || b) ≡ true
-or_right true b e = refl
-or_right false b e = e
 
 pub leads_maybe : {A B : Type 0} {S : A → Text} {T : B → Text} {f g : TokenKind → Bool} → Leads S f → Leads T g
     → Leads {A = Option A × B} (λ x. maybe S x.0 & T x.1) (λ k. f k || g k)

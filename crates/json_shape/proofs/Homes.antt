@@ -11,7 +11,7 @@ use Rattle.pres.specs.Bindings.{Binding, IsBinding}
 use Rattle.pres.specs.Faces.{Face, faces}
 use Rattle.pres.specs.Offers.{Offer, offer, offer_at, offers_from, operations, gotten, gets_null, null_operation, type_faces}
 use Rattle.json_shape.specs.Homes.{homes, homes_from, Leads}
-use Rattle.json_shape.proofs.Passing.{is_false}
+use Rattle.std.proofs.lemmas.Bool.{false_from_ne_true}
 
 -- ---- the operations of a bound unit
 
@@ -80,7 +80,7 @@ null_by : (b : Back) (k : ℕ) (is : List PlainInterface) (t : Bool) (m : ℕ)
     → Some m ≡ slice_get (map (λ (op : PlainOperation). k) (if t then null_operation ∷ [] else []) ++ homes_from b (suc k) is) 0
     → (m == k) ≡ t
 null_by b k is true m e = let same : m ≡ k = cc in (Decides-eqb m k).1 same
-null_by b k is false m e = is_false (m == k) (λ h. omega (arith, not_below b (suc k) m is (sym e), (Decides-eqb m k).0 h))
+null_by b k is false m e = false_from_ne_true (m == k) (λ h. omega (arith, not_below b (suc k) m is (sym e), (Decides-eqb m k).0 h))
 
 home_past : (b : Back) (k : ℕ) (i : PlainInterface) (is : List PlainInterface) (ops : List Op) → homes ops ≡ homes_from b k (i ∷ is)
     → option_map (λ (o : Op). o.interface) (slice_get ops (length i.ops))

@@ -1,11 +1,12 @@
 -- Strings that begin with the string of octets.
-use Rattle.std.proofs.Common.{◌≡◌, ℕ, suc, ◌<◌, ◌≤◌, ◌+◌, List, [], ◌∷◌, ◌++◌, length, get_or, take, drop, Bool, true, false, encode_utf8, IsUtf8, bytes_eq, nat_eq, refl, sym, ap, ◌∙◌, arith, add-one, append_assoc, append-nil, length-append}
+use Rattle.std.proofs.Common.{◌≡◌, ℕ, suc, ◌<◌, ◌≤◌, ◌+◌, List, [], ◌∷◌, ◌++◌, length, get_or, take, drop, true, false, encode_utf8, IsUtf8, bytes_eq, nat_eq, refl, sym, ap, ◌∙◌, arith, add-one, append_assoc, append-nil, length-append}
 use Rattle.std.proofs.Math.Seq.{drop-cons, take-suc}
 use Rattle.std.proofs.lemmas.List.{take_all, nil_from_length}
 use Rattle.std.proofs.lemmas.Str.{IsUtf8-past_char, encode_same, encodes-append, length-encode, len_utf8_bounds}
 use Rattle.std.proofs.lemmas.Slice.Eq.{bytes_eq-Decides}
 use Rattle.std.proofs.lemmas.Bool.Decides.{Decides-eqb}
 use Rattle.json_shape.specs.Texts.{text_of}
+use Rattle.std.proofs.lemmas.Bool.{false_from_ne_true}
 
 -- the string of the first octets has been read, and what may still come is that of the others
 pub record Passing (octets : List ℕ) (k : ℕ) (start rest : List ℕ) : Type 0 where
@@ -67,14 +68,10 @@ whole_text octets text rest is none =
     let empty : rest ≡ [] = nil_from_length rest none in
     (bytes_eq-Decides (text_of octets) text).1 (sym (is ∙ ap (λ bs. text_of octets ++ bs) empty ∙ append-nil (text_of octets)))
 
-pub is_false : (b : Bool) → (b ≡ true → ⊥) → b ≡ false
-is_false true h = absurd (h refl)
-is_false false h = refl
-
 -- a string that does not begin so
 pub other_text : (octets text : List ℕ) → ((more : List ℕ) → text ≡ text_of octets ++ more → ⊥) → bytes_eq (text_of octets) text ≡ false
 other_text octets text h =
-    is_false (bytes_eq (text_of octets) text)
+    false_from_ne_true (bytes_eq (text_of octets) text)
     (λ e. h [] (sym ((bytes_eq-Decides (text_of octets) text).0 e) ∙ sym (append-nil (text_of octets))))
 
 same_front : (p xs ys : List ℕ) → bytes_eq (p ++ xs) (p ++ ys) ≡ bytes_eq xs ys
@@ -89,5 +86,5 @@ peeled a b text rest is = rw (encodes-append a b, is) (same_front (text_of a) (t
 
 pub unpeeled : (a b text : List ℕ) → ((more : List ℕ) → text ≡ text_of a ++ more → ⊥) → bytes_eq (text_of (a ++ b)) text ≡ false
 unpeeled a b text h =
-    is_false (bytes_eq (text_of (a ++ b)) text)
+    false_from_ne_true (bytes_eq (text_of (a ++ b)) text)
     (λ e. h (text_of b) (sym ((bytes_eq-Decides (text_of (a ++ b)) text).0 e) ∙ encodes-append a b))

@@ -5,7 +5,8 @@ use Rattle.std.proofs.lemmas.Bool.Decides.{Decides-eqb}
 use Rattle.std.proofs.lemmas.Str.{encode_same, encodes-append, encodes-IsAscii, length-le-encodes, IsAscii-take, IsCharBoundary-after_ascii}
 use Rattle.std.proofs.lemmas.Slice.Eq.{bytes_eq-Decides}
 use Rattle.json_shape.specs.Texts.{text_of}
-use Rattle.json_shape.proofs.Passing.{never_empty, is_false, peeled}
+use Rattle.json_shape.proofs.Passing.{never_empty, peeled}
+use Rattle.std.proofs.lemmas.Bool.{false_from_ne_true}
 
 -- octets with one string are the same
 same_octets : (xs ys : List ℕ) → text_of xs ≡ text_of ys → xs ≡ ys
@@ -34,7 +35,7 @@ plain_text name text h =
 
 pub too_long : (name text : List ℕ) → length text < length name → bytes_eq (text_of name) text ≡ false
 too_long name text h =
-    is_false (bytes_eq (text_of name) text) (λ e.
+    false_from_ne_true (bytes_eq (text_of name) text) (λ e.
     let same : text_of name ≡ text = (bytes_eq-Decides (text_of name) text).0 e in
     omega (arith, h, length-le-encodes name, ap (λ (t : List ℕ). length t) same))
 
@@ -77,7 +78,7 @@ begun name text rest h e = subst (λ (n : List ℕ). IsAscii n) (name_there name
 none_after_plain : (name text : List ℕ) → IsAscii name → ((more : List ℕ) → text ≡ name ++ (codes "." ++ more) → ⊥) → (o : List ℕ)
     → bytes_eq (text_of (name ++ (codes "." ++ o))) text ≡ false
 none_after_plain name text h f o =
-    is_false (bytes_eq (text_of (name ++ (codes "." ++ o))) text) (λ e.
+    false_from_ne_true (bytes_eq (text_of (name ++ (codes "." ++ o))) text) (λ e.
     let cut : text_of (name ++ (codes "." ++ o)) ≡ name ++ (codes "." ++ text_of o) =
     encodes-append name (codes "." ++ o) ∙ ap (λ (n : List ℕ). n ++ text_of (codes "." ++ o)) (encodes-IsAscii name h)
     ∙ ap (λ (t : List ℕ). name ++ t) (dot_text o) in
@@ -86,7 +87,7 @@ none_after_plain name text h f o =
 none_in_plain : (name text : List ℕ) → IsAscii text → ((more : List ℕ) → text ≡ name ++ (codes "." ++ more) → ⊥) → (o : List ℕ)
     → bytes_eq (text_of (name ++ (codes "." ++ o))) text ≡ false
 none_in_plain name text h f o =
-    is_false (bytes_eq (text_of (name ++ (codes "." ++ o))) text) (λ e.
+    false_from_ne_true (bytes_eq (text_of (name ++ (codes "." ++ o))) text) (λ e.
     f o (sym ((bytes_eq-Decides (name ++ (codes "." ++ o)) text).0 (sym (plain_text (name ++ (codes "." ++ o)) text h) ∙ e))))
 
 -- a name that is longer than the string does not begin it

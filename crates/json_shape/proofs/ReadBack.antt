@@ -2,7 +2,7 @@
 use Rattle.std.proofs.Common.{◌≡◌, ℕ, zero, suc, ◌+◌, ◌^◌, ◌<◌, List, [], ◌∷◌, ◌++◌, map, slice_get, Bool, true, false, not, Some, None, Ok, bytes_eq, refl, sym, ap, ◌∙◌, subst, arith}
 use Rattle.std.specs.Prelude.{if◌then◌else◌, codes, nat_lt, is_some}
 use Rattle.std.specs.List.{list_any, AllByRecursion}
-use Rattle.std.proofs.lemmas.Bool.{lt-ltb}
+use Rattle.std.proofs.lemmas.Bool.{lt-ltb, not-true, or_parts}
 use Rattle.std.proofs.lemmas.Slice.Eq.{bytes_eq-Decides}
 use Rattle.std.proofs.lemmas.Str.{encodes_same}
 use Rattle.mint.specs.Typed.{IsWellTyped}
@@ -25,7 +25,7 @@ use Rattle.json_shape.specs.Requests.{is_request, head_of, is_unanswered, reques
 use Rattle.json_shape.specs.Texts.{text_of}
 use Rattle.json_shape.specs.Written.{json_of}
 use Rattle.json_shape.proofs.Naming.{face_named}
-use Rattle.json_shape.proofs.Written.{shows_written, not_true, neither}
+use Rattle.json_shape.proofs.Written.{shows_written}
 use Rattle.wire_def.proofs.ScalarGrammar.{left_true, right_true}
 
 -- ---- the operation of a name
@@ -48,9 +48,9 @@ other_name is [] j o n h there = absurd cc
 other_name is (p ∷ ops) zero o n h there =
     let same : p ≡ o = cc in
     ap (λ z. bytes_eq (dotted is z) n) (sym same)
-    ∙ (neither (bytes_eq (dotted is p) n) (list_any (λ m. bytes_eq m n) (map (dotted is) ops)) h).0
+    ∙ (or_parts (bytes_eq (dotted is p) n) (list_any (λ m. bytes_eq m n) (map (dotted is) ops)) h).0
 other_name is (p ∷ ops) (suc j) o n h there =
-    other_name is ops j o n ((neither (bytes_eq (dotted is p) n) (list_any (λ m. bytes_eq m n) (map (dotted is) ops)) h).1) there
+    other_name is ops j o n ((or_parts (bytes_eq (dotted is p) n) (list_any (λ m. bytes_eq m n) (map (dotted is) ops)) h).1) there
 
 found : (is : List PlainInterface) (ops : List Op) (k j : ℕ) (o : Op) → are_distinct (map (dotted is) ops) ≡ true → slice_get ops j ≡ Some o
     → op_from is (text_of (dotted is o)) k ops ≡ Some (k + j, o)
@@ -63,7 +63,7 @@ found is (p ∷ ops) k zero o h there =
     rw here (ap (λ z. Some (z, p)) place ∙ ap (λ z. Some (k + 0, z)) same)
 found is (p ∷ ops) k (suc j) o h there =
     let none =
-    not_true (list_any (λ m. bytes_eq m (dotted is p)) (map (dotted is) ops))
+    not-true (list_any (λ m. bytes_eq m (dotted is p)) (map (dotted is) ops))
     (left_true (not (list_any (λ m. bytes_eq m (dotted is p)) (map (dotted is) ops))) (are_distinct (map (dotted is) ops)) h) in
     let rest = right_true (not (list_any (λ m. bytes_eq m (dotted is p)) (map (dotted is) ops))) (are_distinct (map (dotted is) ops)) h in
     let no : bytes_eq (text_of (dotted is p)) (text_of (dotted is o)) ≡ false =

@@ -27,9 +27,10 @@ use Rattle.json_shape.specs.Reading.{value_of, each, in_order, by_name}
 use Rattle.json_shape.specs.Scalars.{each_in, number_in}
 use Rattle.json_shape.specs.Texts.{text_of}
 use Rattle.json_shape.specs.Usual.{listed_in, AreRead, IsRead, MembersRead}
-use Rattle.json_shape.proofs.Written.{neither, not_true, other_member, size-put}
+use Rattle.json_shape.proofs.Written.{other_member, size-put}
 use Rattle.json_shape.proofs.WrittenScalars.{is_name}
 use Rattle.wire_def.proofs.ScalarGrammar.{left_true, right_true}
+use Rattle.std.proofs.lemmas.Bool.{not-true, or_parts}
 
 pub ruleset trees = (view-Array, view-Object)
 
@@ -159,7 +160,7 @@ free_more : (names : List (List ℕ)) (n : List ℕ) (d : json.Data) (acc : Memb
     → AreFree names (put (text_of n) d acc)
 free_more [] n d acc h free = tt
 free_more (m ∷ names) n d acc h free =
-    let two = neither (bytes_eq m n) (is_name names n) h in
+    let two = or_parts (bytes_eq m n) (is_name names n) h in
     (other_member m n d acc two.0 ∙ free.0, free_more names n d acc two.1 free.1)
 
 turned : (a b : List ℕ) → bytes_eq a b ≡ false → bytes_eq b a ≡ false
@@ -189,7 +190,7 @@ members_from fs (n ∷ names) [] ms vs acc l m distinct free h = absurd (omega (
 members_from fs (n ∷ names) (i ∷ ids) [] vs acc l m distinct free h = absurd (omega (arith, m))
 members_from fs (n ∷ names) (i ∷ ids) (x ∷ ms) [] acc l m distinct free h = absurd h
 members_from fs (n ∷ names) (i ∷ ids) (x ∷ ms) (v ∷ vs) acc l m distinct free h =
-    let new = not_true (is_name names n) (left_true _ (are_distinct names) distinct) in
+    let new = not-true (is_name names n) (left_true _ (are_distinct names) distinct) in
     let d = h.0.read.tree in
     let now : Members = put (text_of n) d acc in
     let rest = members_from fs names ids ms vs now (omega (arith, l)) (omega (arith, m)) (right_true _ (are_distinct names) distinct)
@@ -201,7 +202,7 @@ members_from fs (n ∷ names) (i ∷ ids) (x ∷ ms) (v ∷ vs) acc l m distinct
       are = rw (h.0.read.is, h.0.key) rest.are;
       number_of_them = omega (arith, rest.number_of_them, more);
       gives = rw (here, h.0.read.gives, rest.gives) refl;
-      others = λ q none. let two = neither (bytes_eq n q) (is_name names q) none in
+      others = λ q none. let two = or_parts (bytes_eq n q) (is_name names q) none in
           rest.others q two.1 ∙ other_member q n d acc (turned n q two.0);
     }
 

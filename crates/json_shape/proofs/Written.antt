@@ -1,5 +1,5 @@
 -- The tree that is written for a value shows it, by mutual induction on faces, their parts and their arms.
-use Rattle.std.proofs.Common.{◌≡◌, ℕ, ◌+◌, ℤ, List, Bool, true, false, ◌||◌, not, int_eq, Some, None, MatchBool, Ordering, Less, Equal, Greater, nat_cmp, bytes_eq, refl, sym, ◌∙◌, arith}
+use Rattle.std.proofs.Common.{◌≡◌, ℕ, ◌+◌, ℤ, List, Bool, true, false, not, int_eq, Some, None, MatchBool, Ordering, Less, Equal, Greater, nat_cmp, bytes_eq, refl, sym, ◌∙◌, arith}
 use Rattle.std.specs.Prelude.{if◌then◌else◌}
 use Rattle.std.specs.Ordering.{match_ordering}
 use Rattle.std.specs.Cmp.Lexicographic.{slice_cmp}
@@ -19,6 +19,7 @@ use Rattle.json_shape.specs.Texts.{text_of}
 use Rattle.json_shape.specs.Written.{items_json, json_of, in_order_json, by_name_json, after_json}
 use Rattle.wire_def.proofs.ScalarGrammar.{left_true, right_true}
 use Rattle.json_shape.proofs.WrittenScalars.{sign_written, array_written, is_name}
+use Rattle.std.proofs.lemmas.Bool.{not-true, or_parts}
 
 each_shows : (f : Face) (P : Val → Type 0) → ((v : Val) → P v → Shows f (json_of f v) v) → (vs : Vals) → Each P vs
     → ShowEach (Shows f) (items_json (json_of f) vs) vs
@@ -33,21 +34,13 @@ other_member m n d ms h =
     get_member-put_other (text_of m) (text_of n) d ms
     (λ e. let same : bytes_eq m n ≡ true = (bytes_eq-Decides m n).1 (encodes_same m n e) in absurd cc)
 
-pub neither : (a b : Bool) → (a || b) ≡ false → (a ≡ false) × (b ≡ false)
-neither true b h = absurd cc
-neither false b h = (refl, h)
-
-pub not_true : (a : Bool) → not a ≡ true → a ≡ false
-not_true true h = absurd cc
-not_true false h = refl
-
 one_more : (ps : Parts) (ms : Members) (vs : Vals) (n : List ℕ) (d : Data) → is_name (names_of ps) n ≡ false → ShowByName ps ms vs
     → ShowByName ps (put (text_of n) d ms) vs
 one_more no_parts ms no_more n d h shows = tt
 one_more no_parts ms (val v vs) n d h shows = absurd shows
 one_more (part m f ps) ms no_more n d h shows = absurd shows
 one_more (part m f ps) ms (val v vs) n d h shows =
-    let two = neither (bytes_eq m n) (is_name (names_of ps) n) h in
+    let two = or_parts (bytes_eq m n) (is_name (names_of ps) n) h in
     (rw (other_member m n d ms two.0) shows.0, one_more ps ms vs n d two.1 shows.1)
 
 -- no part has the name
@@ -55,7 +48,7 @@ missing : (ps : Parts) (vs : Vals) (q : List ℕ) → is_name (names_of ps) q �
 missing no_parts vs q h = refl
 missing (part m f ps) no_more q h = refl
 missing (part m f ps) (val v vs) q h =
-    let two = neither (bytes_eq m q) (is_name (names_of ps) q) h in
+    let two = or_parts (bytes_eq m q) (is_name (names_of ps) q) h in
     other_member q m (json_of f v) (by_name_json ps vs) (swapped m q two.0) ∙ missing ps vs q two.1 where
       swapped : (a b : List ℕ) → bytes_eq a b ≡ false → bytes_eq b a ≡ false
       swapped a b h = step (bytes_eq b a) refl where
@@ -78,7 +71,7 @@ sizes no_parts no_more h typed = refl
 sizes no_parts (val v vs) h typed = absurd typed
 sizes (part n f ps) no_more h typed = absurd typed
 sizes (part n f ps) (val v vs) h typed =
-    let new = not_true (is_name (names_of ps) n) (left_true (not (is_name (names_of ps) n)) (are_distinct (names_of ps)) h) in
+    let new = not-true (is_name (names_of ps) n) (left_true (not (is_name (names_of ps) n)) (are_distinct (names_of ps)) h) in
     let rest = sizes ps vs (right_true (not (is_name (names_of ps) n)) (are_distinct (names_of ps)) h) typed.1 in
     omega (arith, size-put (text_of n) (json_of f v) (by_name_json ps vs) (missing ps vs n new), rest)
 
@@ -126,7 +119,7 @@ mutual
       → ShowByName ps (by_name_json ps vs) vs
   by_name_written no_parts no_more distinct named h = tt
   by_name_written (part n f ps) (val v vs) distinct named h =
-      let new = not_true (is_name (names_of ps) n) (left_true (not (is_name (names_of ps) n)) (are_distinct (names_of ps)) distinct) in
+      let new = not-true (is_name (names_of ps) n) (left_true (not (is_name (names_of ps) n)) (are_distinct (names_of ps)) distinct) in
       let here = shows_written f v (left_true (is_named f) (are_parts_named ps) named) h.0 in
       let rest =
       by_name_written ps vs (right_true (not (is_name (names_of ps) n)) (are_distinct (names_of ps)) distinct)

@@ -15,19 +15,8 @@ use Rattle.mint.specs.Types.{Scalar, number, label, Array, text, row_of, Ty, voi
 use Rattle.mint.specs.Typed.{is_scalar, Each, IsOf, AreOf, IsWellTyped}
 use Rattle.mint.specs.Blank.{least, first_of, blank, blanks, blank_arm, blank_array, blank_scalar, copies}
 use Rattle.mint.specs.Sound.{is_labelled, are_labels, rise_from, are_tagged, are_arms, arm_numbers, is_armless, IsSound, AreSound, ArmsSound}
-use Rattle.mint.proofs.Measuring.{Taken, level_taken, sound_taken, split}
-
-joined : (a b : Bool) → a ≡ true → b ≡ true → a && b ≡ true
-joined true b g h = h
-joined false b g h = absurd cc
-
-not_false : (b : Bool) → not b ≡ false → b ≡ true
-not_false true h = refl
-not_false false h = absurd cc
-
-not_true : (b : Bool) → not b ≡ true → b ≡ false
-not_true false h = refl
-not_true true h = absurd cc
+use Rattle.mint.proofs.Measuring.{Taken, level_taken, sound_taken}
+use Rattle.std.proofs.lemmas.Bool.{not-false, and_from, and_parts}
 
 same : (n : ℤ) → int_eq n n ≡ true
 same n = (Decides-int_eq n n).1 refl
@@ -50,8 +39,8 @@ zero_in kind.Bool = refl
 first_is_label : (ns : List ℤ) → are_labels ns ≡ true → is_scalar (label ns) (first_of ns) ≡ true
 first_is_label [] h = absurd cc
 first_is_label (n ∷ ns) h =
-    let ranged = split (list_all (in_range kind.I32) (n ∷ ns)) _ h in
-    let first = split (in_range kind.I32 n) (list_all (in_range kind.I32) ns) ranged.0 in
+    let ranged = and_parts (list_all (in_range kind.I32) (n ∷ ns)) _ h in
+    let first = and_parts (in_range kind.I32 n) (list_all (in_range kind.I32) ns) ranged.0 in
     rw (first.0, same n) refl
 
 blank_is_scalar : (s : Scalar) → is_labelled s ≡ true → is_scalar s (blank_scalar s) ≡ true
@@ -62,7 +51,7 @@ blank_is_scalar (label ns) h = first_is_label ns h
 
 zeros_in : (k : Kind) (n : ℕ) → list_all (in_range k) (replicate n (pos 0)) ≡ true
 zeros_in k zero = refl
-zeros_in k (suc n) = joined (in_range k (pos 0)) _ (zero_in k) (zeros_in k n)
+zeros_in k (suc n) = and_from (in_range k (pos 0)) _ (zero_in k) (zeros_in k n)
 
 least_allowed : (c : Count) (n : ℕ) → n ≡ least c → Allows c n
 least_allowed (Exactly m) n is = is
@@ -88,23 +77,23 @@ each_copy P (suc n) v h = (h, each_copy P n v h)
 -- ---- types
 
 armed_scalar : (s : Scalar) (arms : Arms) → Taken (choice_type s arms) → (is_labelled s ≡ true) × (are_arms s arms ≡ true)
-armed_scalar s arms h = split (is_labelled s) (are_arms s arms) (not_false (is_labelled s && are_arms s arms) h.labelled)
+armed_scalar s arms h = and_parts (is_labelled s) (are_arms s arms) (not-false (is_labelled s && are_arms s arms) h.labelled)
 
 first_tagged : (s : Scalar) (n : ℤ) (t : Ty) (arms : Arms) → are_arms s (arm_type n t arms) ≡ true → is_scalar s n ≡ true
 first_tagged s n t arms h =
     let ns = n ∷ arm_numbers arms in
-    let tagged = split (are_tagged s ns) (not (is_armless (arm_type n t arms))) h in
-    let rising = split (nat_le (length ns) most_labels) (rise_from None ns && list_all (is_scalar s) ns) tagged.0 in
-    let all = split (rise_from None ns) (list_all (is_scalar s) ns) rising.1 in
-    (split (is_scalar s n) (list_all (is_scalar s) (arm_numbers arms)) all.1).0
+    let tagged = and_parts (are_tagged s ns) (not (is_armless (arm_type n t arms))) h in
+    let rising = and_parts (nat_le (length ns) most_labels) (rise_from None ns && list_all (is_scalar s) ns) tagged.0 in
+    let all = and_parts (rise_from None ns) (list_all (is_scalar s) ns) rising.1 in
+    (and_parts (is_scalar s n) (list_all (is_scalar s) (arm_numbers arms)) all.1).0
 
 no_arms : (s : Scalar) → are_arms s no_other ≡ true → ⊥
-no_arms s h = let a = split (are_tagged s []) false h in cc
+no_arms s h = let a = and_parts (are_tagged s []) false h in cc
 
 mutual
   pub blank_is_of : (t : Ty) → IsSound t → IsOf t (blank t)
   blank_is_of void_type h = tt
-  blank_is_of (scalar_type s) h = blank_is_scalar s (not_false (is_labelled s) (level_taken (scalar_type s) h).labelled)
+  blank_is_of (scalar_type s) h = blank_is_scalar s (not-false (is_labelled s) (level_taken (scalar_type s) h).labelled)
   blank_is_of (array_type a) h = blank_is_array a (level_taken (array_type a) h)
   blank_is_of (group_type ts) h = blanks_are_of ts h.1
   blank_is_of (items_type c t) h =

@@ -1,11 +1,11 @@
 -- An image gives its numbers back, and numbers their image, by induction on the numbers and on how many they are.
-use Rattle.std.proofs.Common.{FitsSigned, ◌≡◌, ◌≢◌, IsTrue, Bool, true, false, cond, ltb, not, ◌==◌, ◌&&◌, ℕ, zero, suc, ◌+◌, ◌-◌, ◌*◌, ◌/◌, ◌%◌, ◌^◌, ◌<◌, ℤ, pos, negsuc, List, [], ◌∷◌, ◌++◌, length, get_or, take, drop, Result, Ok, Err, OnOk, OnErr, refl, sym, ap, ◌∙◌, subst, inl, inr, append_assoc, length-append, append-nil, add-one, arith}
+use Rattle.std.proofs.Common.{FitsSigned, ◌≡◌, ◌≢◌, IsTrue, Bool, true, cond, ltb, not, ◌==◌, ℕ, zero, suc, ◌+◌, ◌-◌, ◌*◌, ◌/◌, ◌%◌, ◌^◌, ◌<◌, ℤ, pos, negsuc, List, [], ◌∷◌, ◌++◌, length, get_or, take, drop, Result, Ok, Err, OnOk, OnErr, refl, sym, ap, ◌∙◌, subst, inl, inr, append_assoc, length-append, append-nil, add-one, arith}
 use Rattle.std.specs.List.{list_all, AllByRecursion}
 use Rattle.std.specs.Int.{Width, w8, w16, w32, w64, w128, byte_at, to_le_bytes, from_le_bytes, cast_unsigned, cast_signed}
 use Rattle.std.proofs.Math.Nat.{add-div_left}
 use Rattle.std.specs.Ordering.{int_eq}
 use Rattle.std.proofs.lemmas.Bool.Decides.{nat_tests}
-use Rattle.std.proofs.lemmas.Bool.{cases_lt, ltb-true, lt-ltb, le-ltb}
+use Rattle.std.proofs.lemmas.Bool.{cases_lt, ltb-true, lt-ltb, le-ltb, and_parts, and_from}
 use Rattle.std.proofs.lemmas.Int.{to_z-of_z, of_z-to_z}
 use Rattle.std.proofs.lemmas.List.{take_at, drop_at, take-append-drop, length-take, length-drop}
 use Rattle.std.proofs.lemmas.Nat.{div-add-mod', le_bytes_2, le_bytes_4, le_bytes_8, from_le_bytes-to_le_bytes_2, from_le_bytes-to_le_bytes_4, from_le_bytes-to_le_bytes_8}
@@ -184,18 +184,10 @@ number_ranged kind.I64 o other oct = signed_ranged kind.I64 9223372036854775808 
 
 -- ---- a list of numbers
 
-split : (a b : Bool) → IsTrue (a && b) → IsTrue a × IsTrue b
-split true b h = (refl, h)
-split false b h = absurd cc
-
-joined : (a b : Bool) → IsTrue a → IsTrue b → IsTrue (a && b)
-joined true b g h = h
-joined false b g h = absurd cc
-
 pub ranged-append : (k : Kind) (ns ms : List ℤ) → IsTrue (list_all (in_range k) ns) → IsTrue (list_all (in_range k) ms)
     → IsTrue (list_all (in_range k) (ns ++ ms))
 ranged-append k [] ms g h = h
-ranged-append k (n ∷ ns) ms g h = let s = split (in_range k n) (list_all (in_range k) ns) g in joined (in_range k n) _ s.0
+ranged-append k (n ∷ ns) ms g h = let s = and_parts (in_range k n) (list_all (in_range k) ns) g in and_from (in_range k n) _ s.0
     (ranged-append k ns ms s.1 h)
 
 pub image-append : (k : Kind) (ns ms : List ℤ) → image_of k (ns ++ ms) ≡ image_of k ns ++ image_of k ms
@@ -232,7 +224,7 @@ numbers-after : (k : Kind) (ns : List ℤ) (o : List ℕ) → IsTrue (list_all (
     → numbers_of k (image_of k ns ++ o) ≡ ns ++ numbers_of k o
 numbers-after k [] o h = refl
 numbers-after k (n ∷ ns) o h =
-    let s = split (in_range k n) (list_all (in_range k) ns) h in
+    let s = and_parts (in_range k n) (list_all (in_range k) ns) h in
     ap (numbers_of k) (append_assoc (octets_of k n) (image_of k ns) o)
     ∙ numbers-front k (octets_of k n) (image_of k ns ++ o) (octets_many k n)
     ∙ ap (λ z. z ∷ numbers_of k (image_of k ns ++ o)) (number_back k n s.0)
@@ -270,7 +262,7 @@ ranged_in : (k : Kind) (n : ℕ) (o : List ℕ) → k ≢ kind.Bool → AreOctet
 unfolding numbers_in
 ranged_in k zero o other oct = refl
 ranged_in k (suc n) o other oct =
-    joined (in_range k (number_in k (take (width k) o))) _ (number_ranged k (take (width k) o) other (octets_taken (width k) o oct))
+    and_from (in_range k (number_in k (take (width k) o))) _ (number_ranged k (take (width k) o) other (octets_taken (width k) o oct))
     (ranged_in k n (drop (width k) o) other (octets_dropped (width k) o oct))
 
 whole_words : (w l : ℕ) → l % w ≡ 0 → l ≡ l / w * w
@@ -306,10 +298,10 @@ IsImage-append k o p is also =
 
 -- the image of one number
 pub IsImage-one : (k : Kind) (n : ℤ) → IsTrue (in_range k n) → IsImage k (octets_of k n)
-IsImage-one k n h = subst (IsImage k) (append-nil (octets_of k n)) (IsImage-numbers k (n ∷ []) (joined (in_range k n) true h refl))
+IsImage-one k n h = subst (IsImage k) (append-nil (octets_of k n)) (IsImage-numbers k (n ∷ []) (and_from (in_range k n) true h refl))
 
 pub numbers-one : (k : Kind) (n : ℤ) → IsTrue (in_range k n) → numbers_of k (octets_of k n) ≡ n ∷ []
-numbers-one k n h = ap (numbers_of k) (sym (append-nil (octets_of k n))) ∙ numbers-image k (n ∷ []) (joined (in_range k n) true h refl)
+numbers-one k n h = ap (numbers_of k) (sym (append-nil (octets_of k n))) ∙ numbers-image k (n ∷ []) (and_from (in_range k n) true h refl)
 
 -- ---- a piece put after an image
 
@@ -380,11 +372,11 @@ pub letters_are : (k : Kind) (ns : List ℤ) → k ≡ kind.Char → IsTrue (lis
 unfolding octets_of
 letters_are kind.Char [] e h = refl
 letters_are kind.Char (pos n ∷ ns) e h =
-    let s = split (in_range kind.Char (pos n)) (list_all (in_range kind.Char) ns) h in
+    let s = and_parts (in_range kind.Char (pos n)) (list_all (in_range kind.Char) ns) h in
     let low : n % 256 ≡ n = omega (arith, ltb-true n 256 s.0) in
     rw (low, s.0, zero_test n, letters_are kind.Char ns refl s.1) refl
 letters_are kind.Char (negsuc n ∷ ns) e h =
-    let s = split (in_range kind.Char (negsuc n)) (list_all (in_range kind.Char) ns) h in
+    let s = and_parts (in_range kind.Char (negsuc n)) (list_all (in_range kind.Char) ns) h in
     absurd (omega (arith, ltb-true n 0 s.0))
 letters_are _ ns e h = cc
 

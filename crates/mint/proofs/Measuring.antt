@@ -1,7 +1,7 @@
 -- What a table keeps of its nodes stays true when a node is put after them, by induction on the nodes.
 use Rattle.std.proofs.Common.{FitsSigned, pos, negsuc, ◌≡◌, Bool, true, false, cond, ltb, nat_lt, nat_le, ◌&&◌, not, ℕ, zero, suc, ◌+◌, ◌*◌, ◌<◌, ◌≤◌, ℤ, List, [], ◌∷◌, ◌++◌, length, get_or, map, Option, None, Some, option_map, slice_get, refl, sym, ap, ◌∙◌, ◌⊎◌, inl, inr, length-append, suc-mul, arith}
 use Rattle.std.specs.List.{list_all, AllByRecursion}
-use Rattle.std.proofs.lemmas.Bool.{ltb-true, ltb-false, leb-false, lt-ltb}
+use Rattle.std.proofs.lemmas.Bool.{ltb-true, ltb-false, leb-false, lt-ltb, and_parts}
 use Rattle.std.proofs.lemmas.List.{get_or-map, length-map, map-append}
 use Rattle.std.proofs.lemmas.Option.{slice_get-map}
 use Rattle.std.specs.Int.{w32}
@@ -58,18 +58,14 @@ sound_taken t h = level_taken t (sound_level t h)
 
 -- ---- children below
 
-pub split : (a b : Bool) → a && b ≡ true → (a ≡ true) × (b ≡ true)
-split true b h = (refl, h)
-split false b h = absurd cc
-
 are_below : (k : ℕ) (is : List ℕ) → list_all (λ i. nat_lt i k) is ≡ true → AreBelow k is
 are_below k [] h = tt
-are_below k (i ∷ is) h = let s = split (nat_lt i k) (list_all (λ j. nat_lt j k) is) h in (ltb-true i k s.0, are_below k is s.1)
+are_below k (i ∷ is) h = let s = and_parts (nat_lt i k) (list_all (λ j. nat_lt j k) is) h in (ltb-true i k s.0, are_below k is s.1)
 
 arms_below : (k : ℕ) (arms : List (ℤ × ℕ)) → list_all (λ a. nat_lt a.1 k) arms ≡ true → ArmsBelow k arms
 arms_below k [] h = tt
 arms_below k (a ∷ arms) h = let s =
-    split (nat_lt a.1 k) (list_all (λ b. nat_lt b.1 k) arms) h in (ltb-true a.1 k s.0, arms_below k arms s.1)
+    and_parts (nat_lt a.1 k) (list_all (λ b. nat_lt b.1 k) arms) h in (ltb-true a.1 k s.0, arms_below k arms s.1)
 
 other_below : (k : ℕ) (o : Option ℕ) → is_below k o ≡ true → IsBelow k o
 other_below k None h = tt
@@ -84,7 +80,7 @@ below_taken k (node.Row x c) h = tt
 below_taken k (node.Group ids) h = are_below k ids h
 below_taken k (node.Items i c) h = ltb-true i k h
 below_taken k (node.Choice t arms o) h = let s =
-    split (list_all (λ a. nat_lt a.1 k) arms) (is_below k o) h in (arms_below k arms s.0, other_below k o s.1)
+    and_parts (list_all (λ a. nat_lt a.1 k) arms) (is_below k o) h in (arms_below k arms s.0, other_below k o s.1)
 below_taken k (node.Maybe i) h = ltb-true i k h
 
 -- ---- a node that is not refused

@@ -1,5 +1,5 @@
 -- The octets of an array, by the sort of its elements, by induction on the elements.
-use Rattle.std.proofs.Common.{◌≡◌, ℕ, ◌+◌, ◌-◌, ◌*◌, ◌%◌, ◌<◌, arith, ℤ, List, [], ◌∷◌, length, map, Bool, ◌&&◌, true, false, not, int_eq, refl, ap, pos, negsuc}
+use Rattle.std.proofs.Common.{◌≡◌, ℕ, ◌+◌, ◌-◌, ◌*◌, ◌%◌, ◌<◌, arith, ℤ, List, [], ◌∷◌, length, map, true, false, not, int_eq, refl, ap, pos, negsuc}
 use Rattle.std.specs.List.{list_all}
 use Rattle.mint.specs.declared.kind.Kind.{Kind}
 use Rattle.mint.specs.declared.kind.Kind.TheVariants as kind
@@ -13,6 +13,7 @@ use Rattle.wire_def.specs.Arrays.{natural, is_octets, element_octets, elements_o
 use Rattle.plain_wire.specs.Sending.{elements_of, in_full}
 use Rattle.plain_wire.proofs.Steps.{equations}
 use Rattle.wire_def.proofs.ScalarGrammar.{left_true, right_true}
+use Rattle.std.proofs.lemmas.Bool.{and_from}
 
 -- where each element is one octet
 elements_are_octets : (one : ℕ → ℤ → List ℕ) → ((p : ℕ) (n : ℤ) → one p n ≡ natural n ∷ []) → (p : ℕ) (ns : List ℤ)
@@ -56,10 +57,6 @@ pub array_in_full : (e : Encoding) (a : Array) (p : ℕ) (ns : List ℤ) → arr
 unfolding array_octets
 array_in_full e a p ns = refl
 
-and_true : (a b : Bool) → a ≡ true → b ≡ true → a && b ≡ true
-and_true true b h j = j
-and_true false b h j = absurd cc
-
 char_octet : (n : ℤ) → in_range kind.Char n ≡ true → in_range kind.Octet n ≡ true
 char_octet (pos m) h = h
 char_octet (negsuc m) h = h
@@ -70,7 +67,7 @@ letters_fit [] h = refl
 letters_fit (n ∷ ns) h =
     let char : in_range kind.Char n ≡ true = left_true (in_range kind.Char n) (not (int_eq n (pos 0)))
     (left_true (is_letter n) (list_all is_letter ns) h) in
-    and_true (in_range kind.Octet n) _ (char_octet n char) (letters_fit ns (right_true (is_letter n) _ h))
+    and_from (in_range kind.Octet n) _ (char_octet n char) (letters_fit ns (right_true (is_letter n) _ h))
 
 pub ruleset rows = (octet_elements, other_elements)
 

@@ -1,7 +1,7 @@
 -- Sketches that are drawn in definitions: nodes for a type, for a message, for a unit, by induction on the type.
 use Rattle.std.proofs.Common.{◌≡◌, IsTrue, Bool, true, false, ℕ, zero, suc, ◌+◌, ◌<◌, ◌≤◌, ℤ, pos, List, [], ◌∷◌, ◌++◌, map, length, get_or, zip, Option, None, Some, if◌then◌else◌, refl, sym, ap, ◌∙◌, subst, length-append, append_assoc, append-nil, arith}
 use Rattle.std.specs.List.{AllByRecursion}
-use Rattle.std.proofs.lemmas.Bool.{ltb-true}
+use Rattle.std.proofs.lemmas.Bool.{ltb-true, and_parts}
 use Rattle.std.proofs.lemmas.List.{map-append}
 use Rattle.mint.specs.declared.kind.Kind.{Kind}
 use Rattle.mint.specs.declared.kind.Kind.TheVariants as kind
@@ -25,7 +25,7 @@ use Rattle.pres.specs.Offers.{Offer, packed, elements_by, sign_in, put_arm, face
 use Rattle.pres.specs.Rising.{put_pair}
 use Rattle.pres.specs.Drafts.{Sketch, IsSketch, drawn, known, Grows, IsDrawn, AreDrawn, AreArms, is_drawable, are_drawable, arms_drawable, faces_inside, IsDrawableOperation, IsDrawableInterface, AreDrawable, AreOffered}
 use Rattle.pres.proofs.Drafting.{sketch, drawn-length, sketch_push, grown, pushed, drawn_stays, known-length, type_drawn, sketch_name, named_drawn, named_known}
-use Rattle.pres.proofs.Drawn.{both, grows_twice, members_by, values_by, names_each, arms_stay, below_pair, node_after, drawn_as}
+use Rattle.pres.proofs.Drawn.{grows_twice, members_by, values_by, names_each, arms_stay, below_pair, node_after, drawn_as}
 use Rattle.pres.proofs.Exchange.{answer_by, offers_stay, placed_more}
 use Rattle.pres.proofs.Ordered.{put_pair-face}
 
@@ -228,14 +228,14 @@ mutual
   draw (aoi.text c) fs s is k d fits = push s (node.Text c) Plain is fits tt tt
   draw (aoi.array x c) fs s is k d fits = draw_elements (packed (face_of fs x)) c (face_of fs x) s (made fs x) is (draw x fs s is k d) fits
   draw (aoi.structure ms) fs s is k d fits =
-      let parts = both (are_distinct (names_of ms)) (are_drawable (length fs) ms) d in
+      let parts = and_parts (are_distinct (names_of ms)) (are_drawable (length fs) ms) d in
       let e = draw_members ms fs s is k parts.1 (fits_first s (made_inside fs ms) (members (parts_of fs ms) ∷ []) fits) in
       push_after s e.new (made_inside fs ms) (node.Group e.ids) (FieldNames (names_of ms)) (members (parts_of fs ms)) e.is e.grows fits
       e.there.below
       (record { each = names_each (drawn e.new) fs e.ids ms e.there.are; distinct = parts.0 })
       (members_by e.new fs e.ids (names_of ms) ms e.there refl)
   draw (aoi.choice t arms) fs s is k d fits =
-      let parts = both (is_drawable (length fs) t) (arms_drawable (length fs) arms) d in
+      let parts = and_parts (is_drawable (length fs) t) (arms_drawable (length fs) arms) d in
       let f : Face = choice (sign_in (face_of fs t)) (arms_of fs arms) in
       let e = draw_arms arms fs s is k parts.1 (fits_first s (made_after fs arms) (f ∷ []) fits) in
       let g = tag_of (face_of fs t) (signed_type fs t s is k parts.0) in
@@ -264,7 +264,7 @@ mutual
   draw_members aoi.no_more fs s is k d fits =
       record { new = s; ids = []; is = is; grows = grows_none s; there = record { below = tt; are = refl } }
   draw_members (aoi.member n x ms) fs s is k d fits =
-      let parts = both (is_drawable (length fs) x) (are_drawable (length fs) ms) d in
+      let parts = and_parts (is_drawable (length fs) x) (are_drawable (length fs) ms) d in
       let r = draw x fs s is k parts.0 (fits_first s (made fs x) (made_inside fs ms) fits) in
       let e = draw_members ms fs r.new r.is (r.grows.types ∙ k) parts.1 (fits_rest s r.new (made fs x) (made_inside fs ms) r.grows fits) in
       let st = drawn_stays r.new e.new (made_inside fs ms) r.id (face_of fs x) e.grows r.there in
@@ -298,7 +298,7 @@ mutual
             record { below = tt; other = r.there.below; are = ap other r.there.is };
       }
   draw_arms (aoi.arm n x arms) fs s is k d fits =
-      let parts = both (is_drawable (length fs) x) (arms_drawable (length fs) arms) d in
+      let parts = and_parts (is_drawable (length fs) x) (arms_drawable (length fs) arms) d in
       let e = draw_arms arms fs s is k parts.1 (fits_first s (made_after fs arms) (made fs x) fits) in
       let r = draw x fs e.new e.is (e.grows.types ∙ k) parts.0 (fits_rest s e.new (made_after fs arms) (made fs x) e.grows fits) in
       let still = arms_stay e.new r.new (made fs x) e.arms e.last (arms_of fs arms) r.grows e.there in

@@ -1,5 +1,5 @@
 -- Types that are drawn, part by part, by induction on the members and on the arms.
-use Rattle.std.proofs.Common.{◌≡◌, IsTrue, Bool, true, false, ◌&&◌, ℕ, zero, suc, ◌+◌, ◌-◌, ◌<◌, ◌≤◌, ℤ, List, [], ◌∷◌, ◌++◌, map, length, get_or, drop, Option, None, Some, if◌then◌else◌, refl, sym, ap, ◌∙◌, subst, length-append, append_assoc, append-nil, Result, Ok, Err, OnOk, IfOk, IfErr, IsErrAnd, arith, rules, true≢false}
+use Rattle.std.proofs.Common.{◌≡◌, IsTrue, Bool, true, false, ℕ, zero, suc, ◌+◌, ◌-◌, ◌<◌, ◌≤◌, ℤ, List, [], ◌∷◌, ◌++◌, map, length, get_or, drop, Option, None, Some, if◌then◌else◌, refl, sym, ap, ◌∙◌, subst, length-append, append_assoc, append-nil, Result, Ok, Err, OnOk, IfOk, IfErr, IsErrAnd, arith, rules}
 use Rattle.std.specs.Prelude.{int_lt}
 use Rattle.std.specs.List.{AllByRecursion}
 use Rattle.std.specs.Option.{unwrap_or}
@@ -22,10 +22,7 @@ use Rattle.pres.specs.Drafts.{Sketch, drawn, Grows, IsDrawn, AreDrawn, AreArms, 
 use Rattle.pres.proofs.Drafting.{below_more, below_push, at_stays}
 use Rattle.pres.proofs.Facing.{arms_agree}
 use Rattle.pres.proofs.Ordered.{put_pair-face}
-
-pub both : (a b : Bool) → IsTrue (a && b) → IsTrue a × IsTrue b
-both true b h = (refl, h)
-both false b h = absurd (true≢false (sym h))
+use Rattle.std.proofs.lemmas.Bool.{and_parts}
 
 pub overflows_more : (fs gs : List Face) (e : BindErr) → Overflows fs e → length fs ≤ length gs → Overflows gs e
 overflows_more fs gs e h le = λ ne. ((h ne).0, omega (arith, (h ne).1, le))
@@ -75,7 +72,7 @@ cut_fields fields i f lt is =
 pub field_left : (n : ℕ) (fields : List Field) (i : ℕ) (f : Field) → i < length fields → f ≡ get_or fields i f
     → IsTrue (are_drawable n (aoi.members (drop i fields)))
     → IsTrue (is_drawable n (aoi.seen f.ty)) × IsTrue (are_drawable n (aoi.members (drop (i + 1) fields)))
-field_left n fields i f lt is h = both _ _ (rw (cut_fields fields i f lt is) at h)
+field_left n fields i f lt is h = and_parts _ _ (rw (cut_fields fields i f lt is) at h)
 
 pub field_nodes : (fs : List Face) (fields : List Field) (i : ℕ) (f : Field) (mid new all : List Face) → i < length fields
     → f ≡ get_or fields i f → mid ++ made_inside fs (aoi.members (drop i fields)) ≡ all → new ≡ mid ++ made fs (aoi.seen f.ty)
@@ -164,13 +161,13 @@ pub arm_drawable : (n : ℕ) (arms : List Pair) (o : Option aoi.Shape) (k : ℕ)
     → IsTrue (arms_drawable n (aoi.arms_seen arms o)) → k < length arms → a ≡ get_or arms k a
     → IsTrue (is_drawable n (aoi.seen a.1))
 arm_drawable n [] o k a h lt is = absurd (omega arith)
-arm_drawable n (b ∷ arms) o zero a h lt is = rw is ((both _ _ h).0)
-arm_drawable n (b ∷ arms) o (suc k) a h lt is = arm_drawable n arms o k a ((both (is_drawable n (aoi.seen b.1)) _ h).1) (omega arith) is
+arm_drawable n (b ∷ arms) o zero a h lt is = rw is ((and_parts _ _ h).0)
+arm_drawable n (b ∷ arms) o (suc k) a h lt is = arm_drawable n arms o k a ((and_parts (is_drawable n (aoi.seen b.1)) _ h).1) (omega arith) is
 
 pub other_drawable : (n : ℕ) (arms : List Pair) (o : Option aoi.Shape) → IsTrue (arms_drawable n (aoi.arms_seen arms o))
     → IsTrue (arms_drawable n (aoi.default_of o))
 other_drawable n [] o h = h
-other_drawable n (b ∷ arms) o h = other_drawable n arms o ((both (is_drawable n (aoi.seen b.1)) _ h).1)
+other_drawable n (b ∷ arms) o h = other_drawable n arms o ((and_parts (is_drawable n (aoi.seen b.1)) _ h).1)
 
 pub after_room : (fs : List Face) (o : Option aoi.Shape) (arms : List Pair) (i : ℕ)
     → length (made_after fs (aoi.arms_seen (drop i arms) o)) ≤ length (made_after fs (aoi.arms_seen arms o))
@@ -296,7 +293,7 @@ pub arms_drawable_alone : (n : ℕ) (o : Option aoi.Shape) (arms : List Pair) �
     → IsTrue (arms_drawable n (aoi.arms_seen arms None))
 arms_drawable_alone n o [] h = refl
 arms_drawable_alone n o (a ∷ arms) h =
-    let parts = both (is_drawable n (aoi.seen a.1)) (arms_drawable n (aoi.arms_seen arms o)) h in
+    let parts = and_parts (is_drawable n (aoi.seen a.1)) (arms_drawable n (aoi.arms_seen arms o)) h in
     rw parts.0 (arms_drawable_alone n o arms parts.1)
 
 -- the default drawn, and then the arms

@@ -1,7 +1,7 @@
 -- Each sound unit that has no reason against it has a binding.
 use Rattle.std.proofs.Common.{◌≡◌, Bool, true, false, ◌≤◌, ℕ, List, [], ◌++◌, length, length-append, nat_lt, if◌then◌else◌, Option, None, Some, refl, ap, ◌∙◌, subst, arith}
 use Rattle.std.specs.List.{AllByRecursion, list_any}
-use Rattle.std.proofs.lemmas.Bool.{ltb-false}
+use Rattle.std.proofs.lemmas.Bool.{ltb-false, or_parts}
 use Rattle.std.proofs.lemmas.List.{length-map}
 use Rattle.wire_def.specs.declared.encoding.Back.{Back}
 use Rattle.aoi.specs.Shapes as aoi
@@ -19,7 +19,6 @@ use Rattle.pres.specs.Drafts.{Sketch, IsSketch, drawn, known, IsDrawableInterfac
 use Rattle.pres.proofs.Building.{Fits, fits_first, draw_interfaces, draw_types}
 use Rattle.pres.proofs.Drafting.{sketch}
 use Rattle.pres.proofs.Faulty.{table_faces, bound}
-use Rattle.pres.proofs.Rises.{neither}
 use Rattle.pres.proofs.SoundUnit.{unit_drawable}
 use Rattle.pres.proofs.Whole.{faces_count}
 
@@ -93,7 +92,7 @@ short_made u b h =
     let narrow : is_wide u b ≡ false =
     not_wide (nat_lt 65536 (length (all_made u b))) (list_any is_deep (all_made u b))
     (list_any is_heavy (all_made u b)) (is_wide u b) h in
-    (neither (list_any has_long_in u.interfaces) (is_spread (offers u b)) narrow).0
+    (or_parts (list_any has_long_in u.interfaces) (is_spread (offers u b)) narrow).0
 
 pub units_bound : UnitsAreBound
 units_bound u b sound none =

@@ -1,7 +1,7 @@
 -- Which refusal is the first, and what sizes up to a limit say of it, by induction on the faces and operations.
 use Rattle.std.proofs.Common.{◌≡◌, Bool, true, false, ◌||◌, ℕ, ◌+◌, ◌<◌, ◌≤◌, min, List, [], ◌∷◌, map, length, nat_lt, sum_by, None, Some, refl, sym, ap, ◌∙◌, subst, arith, true≢false}
 use Rattle.std.specs.List.{list_any, AllByRecursion}
-use Rattle.std.proofs.lemmas.Bool.{lt-ltb, le-ltb, ltb-true, ltb-false}
+use Rattle.std.proofs.lemmas.Bool.{lt-ltb, le-ltb, ltb-true, ltb-false, or_parts}
 use Rattle.std.proofs.lemmas.List.Sums.{sum_by-cons}
 use Rattle.std.proofs.Math.ListN.{get_or-map}
 use Rattle.mint.specs.Blank.{depth}
@@ -16,7 +16,6 @@ use Rattle.pres.specs.Bindings.{Binding, IsPlaced, IsBinding}
 use Rattle.pres.specs.Drafts.{Sketch, drawn, AreOffered}
 use Rattle.pres.specs.Named.{AreNamed}
 use Rattle.pres.proofs.Drafting.{faces-length}
-use Rattle.pres.proofs.Rises.{neither}
 use Rattle.pres.specs.Faces.{Face, nothing, at, type_of, faces}
 use Rattle.pres.specs.Faults.{is_deep, is_heavy, spread, spread_of, is_spread, has_long_in, is_wide, bind_fault}
 use Rattle.pres.specs.Made.{all_made}
@@ -88,7 +87,7 @@ sum_exact : (fs : List Face) (os : List Op) → list_any (λ o. nat_lt 65536 (sp
     → sum_by (nodes_of (map size_of fs)) os ≡ sum_by spread_of (map (offer_at fs) os)
 sum_exact fs [] h = refl
 sum_exact fs (o ∷ os) h =
-    let p = neither (nat_lt 65536 (spread_of (offer_at fs o))) _ h in
+    let p = or_parts (nat_lt 65536 (spread_of (offer_at fs o))) _ h in
     omega (
       arith,
       each_exact fs o p.0,
@@ -111,7 +110,7 @@ over_spread fs os = by (list_any (λ o. nat_lt 65536 (spread_of o)) (map (offer_
 
 pub short_names : (u : PlainUnit) (ss : List Size) (os : List Op) → (list_any has_long_in u.interfaces || is_over ss os) ≡ false
     → list_any has_long_in u.interfaces ≡ false
-short_names u ss os h = (neither (list_any has_long_in u.interfaces) (is_over ss os) h).0
+short_names u ss os h = (or_parts (list_any has_long_in u.interfaces) (is_over ss os) h).0
 
 pub wide_is : (u : PlainUnit) (b : Back) (fs : List Face) (ss : List Size) (os : List Op) → ss ≡ map size_of fs
     → map (offer_at fs) os ≡ offers u b

@@ -1,7 +1,7 @@
 -- The nodes of enums and arrays are regular, and an array's blank value weighs something.
 use Rattle.std.proofs.Common.{◌≡◌, Bool, true, false, not, ◌&&◌, ◌==◌, ℕ, zero, suc, ◌<◌, ◌≤◌, List, [], ◌∷◌, ◌++◌, length, map, nat_lt, nat_le, nat_eq, Option, None, Some, refl, sym, ap, arith, true≢false}
 use Rattle.std.specs.List.{list_all}
-use Rattle.std.proofs.lemmas.Bool.{lt-ltb, ne_eqb, le-leb, leb-true}
+use Rattle.std.proofs.lemmas.Bool.{lt-ltb, ne_eqb, le-leb, leb-true, and_parts}
 use Rattle.mint.specs.declared.kind.Kind.{Kind}
 use Rattle.mint.specs.declared.kind.Kind.TheVariants as kind
 use Rattle.mint.specs.declared.kind.Count.{Count}
@@ -16,7 +16,6 @@ use Rattle.pres.specs.Faces.{ItemList, number, item, Face, nothing, scalar, numb
 use Rattle.pres.specs.Made.{kept}
 use Rattle.pres.specs.Offers.{packed, elements_by, elements}
 use Rattle.pres.specs.Regular.{IsRegular, AreRegular}
-use Rattle.pres.proofs.Drawn.{both}
 use Rattle.pres.proofs.Rises.{labels_rise, labels_few, labels_some}
 
 -- ---- lists of regular faces
@@ -34,8 +33,8 @@ pub enum_labels : (items : ItemList) → is_sound_enum items ≡ true → list_a
     → are_labels (labels_of items) ≡ true
 enum_labels items sound ranged =
     let names : Bool = are_distinct (map (λ i. i.0) items) in
-    let front = both (not (length items == 0) && nat_le (count_different (map (λ i. i.1) items)) 4096) names sound in
-    let first = both (not (length items == 0)) (nat_le (count_different (map (λ i. i.1) items)) 4096) front.0 in
+    let front = and_parts (not (length items == 0) && nat_le (count_different (map (λ i. i.1) items)) 4096) names sound in
+    let first = and_parts (not (length items == 0)) (nat_le (count_different (map (λ i. i.1) items)) 4096) front.0 in
     let count : count_different (map (λ i. i.1) items) ≤ 4096 = leb-true _ _ first.1 in
     let there : 0 < length items = some_items items first.0 in
     let a : nat_lt 0 (length (labels_of items)) ≡ true = lt-ltb _ _ (labels_some items there) in

@@ -3,7 +3,7 @@ use Rattle.std.proofs.Common.{◌≡◌, IsTrue, Bool, true, false, not, ◌&&�
 use Rattle.std.specs.List.{list_all, AllByRecursion}
 use Rattle.std.proofs.Math.ListN.{get_or-append}
 use Rattle.std.proofs.Math.Seq.{get_or-append_seam, take-length}
-use Rattle.std.proofs.lemmas.Bool.{ltb-true, ltb-false, lt-ltb, le-leb, leb-true}
+use Rattle.std.proofs.lemmas.Bool.{ltb-true, ltb-false, lt-ltb, le-leb, leb-true, and_parts}
 use Rattle.std.proofs.lemmas.List.{length-map, take-append-le}
 use Rattle.mint.specs.declared.kind.Kind.TheVariants as kind
 use Rattle.mint.specs.Kinds.{in_range}
@@ -19,7 +19,6 @@ use Rattle.pres.specs.Made.{made, made_inside, made_in_types, made_raised, made_
 use Rattle.pres.specs.Offers.{face_of, faces_of, type_faces, exception, raised, reply_of, null_operation, gets_null, gotten}
 use Rattle.pres.specs.Drafts.{is_drawable, are_drawable, arms_drawable, AreDrawable, IsDrawableOperation, IsDrawableInterface, IsDrawableUnit}
 use Rattle.pres.specs.Regular.{IsRegular, AreRegular}
-use Rattle.pres.proofs.Drawn.{both}
 use Rattle.pres.proofs.Regular.{regular_both, regular_one}
 use Rattle.pres.proofs.Soundly.{Standing, made_regular, made_weighs, inside_regular, void_or}
 
@@ -30,16 +29,16 @@ mutual
   drawable ss l aoi.void h = refl
   drawable ss l (aoi.number k) h = refl
   drawable ss l (aoi.enumeration items) h =
-      (both (not (length items == 0) && nat_le (count_different (map (λ i. i.1) items)) 4096) (are_distinct (map (λ i. i.0) items)) h).1
+      (and_parts (not (length items == 0) && nat_le (count_different (map (λ i. i.1) items)) 4096) (are_distinct (map (λ i. i.0) items)) h).1
   drawable ss l (aoi.text c) h = refl
-  drawable ss l (aoi.array s c) h = drawable ss l s ((both (is_some_count c) (is_sound_type ss l s) h).1)
+  drawable ss l (aoi.array s c) h = drawable ss l s ((and_parts (is_some_count c) (is_sound_type ss l s) h).1)
   drawable ss l (aoi.structure ms) h =
-      let p = both (has_member ms && are_distinct (names_of ms)) (are_sound ss l ms) h in
-      let q = both (has_member ms) (are_distinct (names_of ms)) p.0 in
+      let p = and_parts (has_member ms && are_distinct (names_of ms)) (are_sound ss l ms) h in
+      let q = and_parts (has_member ms) (are_distinct (names_of ms)) p.0 in
       rw (q.1, all_drawable ss l ms p.1) refl
   drawable ss l (aoi.choice tag arms) h =
-      let p = both (is_sound_type ss l tag && is_sound_union (unfolded l ss l tag) arms) (are_sound_arms ss l arms) h in
-      let q = both (is_sound_type ss l tag) (is_sound_union (unfolded l ss l tag) arms) p.0 in
+      let p = and_parts (is_sound_type ss l tag && is_sound_union (unfolded l ss l tag) arms) (are_sound_arms ss l arms) h in
+      let q = and_parts (is_sound_type ss l tag) (is_sound_union (unfolded l ss l tag) arms) p.0 in
       rw (drawable ss l tag q.0, after_drawable ss l arms p.1) refl
   drawable ss l (aoi.optional s) h = drawable ss l s h
   drawable ss l (aoi.named k) h = h
@@ -47,14 +46,14 @@ mutual
   all_drawable : (ss : List aoi.Shape) (l : ℕ) (ms : aoi.Members) → are_sound ss l ms ≡ true → are_drawable l ms ≡ true
   all_drawable ss l aoi.no_more h = refl
   all_drawable ss l (aoi.member n s ms) h =
-      let p = both (is_sound_type ss l s) (are_sound ss l ms) h in
+      let p = and_parts (is_sound_type ss l s) (are_sound ss l ms) h in
       rw (drawable ss l s p.0, all_drawable ss l ms p.1) refl
 
   after_drawable : (ss : List aoi.Shape) (l : ℕ) (arms : aoi.Arms) → are_sound_arms ss l arms ≡ true → arms_drawable l arms ≡ true
   after_drawable ss l aoi.no_default h = refl
   after_drawable ss l (aoi.default s) h = or_drawable ss l s h (drawable ss l s)
   after_drawable ss l (aoi.arm n s arms) h =
-      let p = both (or_void s (is_sound_type ss l s)) (are_sound_arms ss l arms) h in
+      let p = and_parts (or_void s (is_sound_type ss l s)) (are_sound_arms ss l arms) h in
       rw (or_drawable ss l s p.0 (drawable ss l s), after_drawable ss l arms p.1) refl
 
   or_drawable : (ss : List aoi.Shape) (l : ℕ) (s : aoi.Shape) → or_void s (is_sound_type ss l s) ≡ true
@@ -73,7 +72,7 @@ mutual
 types_drawable : (ss : List aoi.Shape) (l : ℕ) (rest : List aoi.Shape) → are_sound_types ss l rest ≡ true → AreDrawable l rest
 types_drawable ss l [] h = tt
 types_drawable ss l (s ∷ rest) h =
-    let p = both (is_sound_type ss l s) (are_sound_types ss (l + 1) rest) h in
+    let p = and_parts (is_sound_type ss l s) (are_sound_types ss (l + 1) rest) h in
     let next : l + 1 ≡ suc l = omega arith in
     (drawable ss l s p.0, types_drawable ss (suc l) rest (rw next at p.1))
 
@@ -94,19 +93,19 @@ operation_parts ss slots op h =
     let r : Bool = or_void op.result (is_sound_type ss n op.result) in
     let f : Bool = nat_le (length op.raises) 4095 in
     let e : Bool = list_all (is_sound_plain_raise ss) op.raises in
-    let a = both ((((i && o) && r) && f) && e) (nat_lt op.slot slots) h in
-    let b = both (((i && o) && r) && f) e a.0 in
-    let c = both ((i && o) && r) f b.0 in
-    let d = both (i && o) r c.0 in
-    let g = both i o d.0 in
+    let a = and_parts ((((i && o) && r) && f) && e) (nat_lt op.slot slots) h in
+    let b = and_parts (((i && o) && r) && f) e a.0 in
+    let c = and_parts ((i && o) && r) f b.0 in
+    let d = and_parts (i && o) r c.0 in
+    let g = and_parts i o d.0 in
     record { ins = g.0; outs = g.1; result = d.1; few = leb-true (length op.raises) 4095 c.1; raises = b.1 }
 
 raises_drawable : (ss : List aoi.Shape) (rs : List PlainRaise) → list_all (is_sound_plain_raise ss) rs ≡ true
     → AllByRecursion (λ r. IsTrue (is_drawable (length ss) (exception r))) rs
 raises_drawable ss [] h = tt
 raises_drawable ss (r ∷ rs) h =
-    let p = both (is_sound_plain_raise ss r) (list_all (is_sound_plain_raise ss) rs) h in
-    let q = both (are_distinct (names_of r.members)) (are_sound ss (length ss) r.members) p.0 in
+    let p = and_parts (is_sound_plain_raise ss r) (list_all (is_sound_plain_raise ss) rs) h in
+    let q = and_parts (are_distinct (names_of r.members)) (are_sound ss (length ss) r.members) p.0 in
     (rw (q.0, all_drawable ss (length ss) r.members q.1) refl, raises_drawable ss rs p.1)
 
 operation_drawable : (ss : List aoi.Shape) (op : PlainOperation) → IsSoundOperation ss op → IsDrawableOperation (length ss) op
@@ -122,21 +121,21 @@ operations_drawable : (ss : List aoi.Shape) (slots : ℕ) (ops : List PlainOpera
     → AllByRecursion (IsDrawableOperation (length ss)) ops
 operations_drawable ss slots [] h = tt
 operations_drawable ss slots (op ∷ ops) h =
-    let p = both (is_sound_plain_operation ss slots op) (list_all (is_sound_plain_operation ss slots) ops) h in
+    let p = and_parts (is_sound_plain_operation ss slots op) (list_all (is_sound_plain_operation ss slots) ops) h in
     (operation_drawable ss op (operation_parts ss slots op p.0), operations_drawable ss slots ops p.1)
 
 interfaces_drawable : (ss : List aoi.Shape) (is : List PlainInterface) → list_all (is_sound_plain_interface ss) is ≡ true
     → AllByRecursion (IsDrawableInterface (length ss)) is
 interfaces_drawable ss [] h = tt
 interfaces_drawable ss (i ∷ is) h =
-    let p = both (is_sound_plain_interface ss i) (list_all (is_sound_plain_interface ss) is) h in
-    let q = both (nat_le (i.base + i.slots + 100) (2 ^ 31 - 1)) (list_all (is_sound_plain_operation ss i.slots) i.ops) p.0 in
+    let p = and_parts (is_sound_plain_interface ss i) (list_all (is_sound_plain_interface ss) is) h in
+    let q = and_parts (nat_le (i.base + i.slots + 100) (2 ^ 31 - 1)) (list_all (is_sound_plain_operation ss i.slots) i.ops) p.0 in
     (operations_drawable ss i.slots i.ops q.1, interfaces_drawable ss is p.1)
 
 pub unit_drawable : (u : PlainUnit) → is_sound_plain u ≡ true → IsDrawableUnit u
 unit_drawable u h =
     let ss : List aoi.Shape = plain_shapes u in
-    let p = both (are_sound_types ss 0 ss) (list_all (is_sound_plain_interface ss) u.interfaces) h in
+    let p = and_parts (are_sound_types ss 0 ss) (list_all (is_sound_plain_interface ss) u.interfaces) h in
     let count : length ss ≡ length u.types = length-map u.types (λ (t : List ℕ × aoi.Shape). t.1) in
     record {
       types = types_drawable ss 0 ss p.0;
@@ -178,7 +177,7 @@ types_regular : (ss : List aoi.Shape) (fs : List Face) (l : ℕ) (rest : List ao
     → AreRegular (made_in_types fs rest) × Standing ss (faces_of fs rest) (l + length rest)
 types_regular ss fs l [] long st same h = let zero_more : l + 0 ≡ l = omega arith in (tt, rw zero_more st)
 types_regular ss fs l (s ∷ rest) long st same h =
-    let p = both (is_sound_type ss l s) (are_sound_types ss (l + 1) rest) h in
+    let p = and_parts (is_sound_type ss l s) (are_sound_types ss (l + 1) rest) h in
     let next : l + 1 ≡ suc l = omega arith in
     let zero_more : l + 0 ≡ l = omega arith in
     let is : slice_index_or ss l aoi.void ≡ s = sym (rw zero_more at (same 0)) in
@@ -218,8 +217,8 @@ raises_regular : (ss : List aoi.Shape) (fs : List Face) (rs : List PlainRaise) �
     → AreRegular (made_raised fs rs)
 raises_regular ss fs [] st h = tt
 raises_regular ss fs (r ∷ rs) st h =
-    let p = both (is_sound_plain_raise ss r) (list_all (is_sound_plain_raise ss) rs) h in
-    let q = both (are_distinct (names_of r.members)) (are_sound ss (length ss) r.members) p.0 in
+    let p = and_parts (is_sound_plain_raise ss r) (list_all (is_sound_plain_raise ss) rs) h in
+    let q = and_parts (are_distinct (names_of r.members)) (are_sound ss (length ss) r.members) p.0 in
     regular_both (made fs (exception r)) (made_raised fs rs)
     (regular_one (made_inside fs r.members) _ (inside_regular ss fs (length ss) r.members st q.1)
     (record { fit = refl; full = refl; labelled = λ r. refl }))
@@ -245,7 +244,7 @@ operations_regular : (ss : List aoi.Shape) (fs : List Face) (slots : ℕ) (ops :
     → AreRegular (made_by fs ops)
 operations_regular ss fs slots [] st h = tt
 operations_regular ss fs slots (op ∷ ops) st h =
-    let p = both (is_sound_plain_operation ss slots op) (list_all (is_sound_plain_operation ss slots) ops) h in
+    let p = and_parts (is_sound_plain_operation ss slots op) (list_all (is_sound_plain_operation ss slots) ops) h in
     regular_both (made_request fs op ++ made_reply fs op) (made_by fs ops)
     (operation_regular ss fs op st (operation_parts ss slots op p.0)) (operations_regular ss fs slots ops st p.1)
 
@@ -265,8 +264,8 @@ interfaces_regular : (ss : List aoi.Shape) (fs : List Face) (b : Back) (is : Lis
     → AreRegular (made_in_interfaces fs b is)
 interfaces_regular ss fs b [] st h = tt
 interfaces_regular ss fs b (i ∷ is) st h =
-    let p = both (is_sound_plain_interface ss i) (list_all (is_sound_plain_interface ss) is) h in
-    let q = both (nat_le (i.base + i.slots + 100) (2 ^ 31 - 1)) (list_all (is_sound_plain_operation ss i.slots) i.ops) p.0 in
+    let p = and_parts (is_sound_plain_interface ss i) (list_all (is_sound_plain_interface ss) is) h in
+    let q = and_parts (nat_le (i.base + i.slots + 100) (2 ^ 31 - 1)) (list_all (is_sound_plain_operation ss i.slots) i.ops) p.0 in
     regular_both (made_by fs i.ops ++ made_by fs (gotten b i)) (made_in_interfaces fs b is)
     (regular_both (made_by fs i.ops) (made_by fs (gotten b i)) (operations_regular ss fs i.slots i.ops st q.1)
     (gotten_regular ss fs b i st))
@@ -276,7 +275,7 @@ pub unit_regular : (u : PlainUnit) (b : Back) → is_sound_plain u ≡ true → 
 unfolding all_made type_faces
 unit_regular u b h =
     let ss : List aoi.Shape = plain_shapes u in
-    let p = both (are_sound_types ss 0 ss) (list_all (is_sound_plain_interface ss) u.interfaces) h in
+    let p = and_parts (are_sound_types ss 0 ss) (list_all (is_sound_plain_interface ss) u.interfaces) h in
     let none : Standing ss [] 0 =
     record {
       sound = λ k lt. absurd (omega (arith, lt));

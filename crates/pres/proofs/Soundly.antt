@@ -3,7 +3,7 @@ use Rattle.std.proofs.Common.{◌≡◌, Bool, true, false, ◌&&◌, ℕ, zero,
 use Rattle.std.specs.Prelude.{int_lt}
 use Rattle.std.specs.List.{list_all, list_any}
 use Rattle.std.specs.Ordering.{int_eq}
-use Rattle.std.proofs.lemmas.Bool.{ltb-true}
+use Rattle.std.proofs.lemmas.Bool.{ltb-true, and_parts}
 use Rattle.std.proofs.lemmas.List.{take-take}
 use Rattle.mint.specs.declared.kind.Kind.TheVariants as kind
 use Rattle.mint.specs.Kinds.{in_range}
@@ -19,7 +19,6 @@ use Rattle.pres.specs.Faces.{ItemList, Sign, number, item, Face, nothing, choice
 use Rattle.pres.specs.Made.{made, made_inside, made_after}
 use Rattle.pres.specs.Offers.{sign_in, put_arm, face_of, arms_of}
 use Rattle.pres.specs.Regular.{is_ranged, IsRegular, AreRegular}
-use Rattle.pres.proofs.Drawn.{both}
 use Rattle.pres.proofs.Measures.{at_take}
 use Rattle.pres.proofs.Rises.{same_number, labels_there, put_number, put_numbers, numbers_longer, numbers_all, numbers_rise}
 use Rattle.pres.proofs.Regular.{regular_both, regular_one, enum_labels, enum_regular, open_text, array_regular, array_weighs}
@@ -63,7 +62,7 @@ arm_weighs s (arm n f arms) h = omega arith
 ranged_in : (ls : List ℤ) (n : ℤ) → list_all (in_range kind.I32) ls ≡ true → list_any (λ l. int_eq l n) ls ≡ true
     → in_range kind.I32 n ≡ true
 ranged_in [] n a h = absurd (true≢false (sym h))
-ranged_in (l ∷ ls) n a h = by (int_eq l n) refl (both (in_range kind.I32 l) _ a) (ranged_in ls n) where
+ranged_in (l ∷ ls) n a h = by (int_eq l n) refl (and_parts (in_range kind.I32 l) _ a) (ranged_in ls n) where
   by : (t : Bool) → int_eq l n ≡ t → (in_range kind.I32 l ≡ true) × (list_all (in_range kind.I32) ls ≡ true)
       → (list_all (in_range kind.I32) ls ≡ true
       → list_any (λ l. int_eq l n) ls ≡ true → in_range kind.I32 n ≡ true) → in_range kind.I32 n ≡ true
@@ -80,11 +79,11 @@ all_of : (tag : aoi.Shape) (ns : List ℤ) → is_tag tag ≡ true → is_labell
     → list_all (is_of_tag tag) ns ≡ true
     → list_all (is_scalar (scalar_of (tag_sign tag))) ns ≡ true
 all_of tag [] t l h = refl
-all_of (aoi.number k) (n ∷ ns) t l h = let p = both (in_range k n) _ h in rw (p.0, all_of (aoi.number k) ns t l p.1) refl
+all_of (aoi.number k) (n ∷ ns) t l h = let p = and_parts (in_range k n) _ h in rw (p.0, all_of (aoi.number k) ns t l p.1) refl
 all_of (aoi.enumeration items) (n ∷ ns) t l h =
-    let p = both (list_any (λ i. int_eq i.1 n) items) _ h in
+    let p = and_parts (list_any (λ i. int_eq i.1 n) items) _ h in
     let there : list_any (λ m. int_eq m n) (labels_of items) ≡ true = labels_there items n p.0 in
-    let range : in_range kind.I32 n ≡ true = ranged_in (labels_of items) n ((both (list_all (in_range kind.I32) (labels_of items)) _ l).0)
+    let range : in_range kind.I32 n ≡ true = ranged_in (labels_of items) n ((and_parts (list_all (in_range kind.I32) (labels_of items)) _ l).0)
     there in
     rw (range, there, all_of (aoi.enumeration items) ns t l p.1) refl
 all_of aoi.void (n ∷ ns) t l h = absurd (true≢false (sym t))
@@ -114,10 +113,10 @@ choice_regular : (fs : List Face) (tag : aoi.Shape) (arms : aoi.Arms)
     → IsRegular (type_of (choice (tag_sign tag) (arms_of fs arms)))
 choice_regular fs tag arms enums sound =
     let ns : List ℤ = numbers_of arms in
-    let x = both (((is_tag tag && has_arm arms) && nat_le (length ns) 4096) && list_all (is_of_tag tag) ns) (are_different ns) sound in
-    let y = both ((is_tag tag && has_arm arms) && nat_le (length ns) 4096) (list_all (is_of_tag tag) ns) x.0 in
-    let z = both (is_tag tag && has_arm arms) (nat_le (length ns) 4096) y.0 in
-    let w = both (is_tag tag) (has_arm arms) z.0 in
+    let x = and_parts (((is_tag tag && has_arm arms) && nat_le (length ns) 4096) && list_all (is_of_tag tag) ns) (are_different ns) sound in
+    let y = and_parts ((is_tag tag && has_arm arms) && nat_le (length ns) 4096) (list_all (is_of_tag tag) ns) x.0 in
+    let z = and_parts (is_tag tag && has_arm arms) (nat_le (length ns) 4096) y.0 in
+    let w = and_parts (is_tag tag) (has_arm arms) z.0 in
     let listed = arms_numbers fs arms in
     let few : nat_le (length (put_numbers ns)) 4096 ≡ true = rw (numbers_longer ns) z.1 in
     let rise : rise_from None (put_numbers ns) ≡ true = numbers_rise ns x.1 in
@@ -213,10 +212,10 @@ union_regular : (ss : List aoi.Shape) (fs : List Face) (l : ℕ) (tag : aoi.Shap
 union_regular ss fs l tag arms st h u =
     let below : aoi.Shape = unfolded l ss l tag in
     let ns : List ℤ = numbers_of arms in
-    let x = both (((is_tag below && has_arm arms) && nat_le (length ns) 4096) && list_all (is_of_tag below) ns) (are_different ns) u in
-    let y = both ((is_tag below && has_arm arms) && nat_le (length ns) 4096) (list_all (is_of_tag below) ns) x.0 in
-    let z = both (is_tag below && has_arm arms) (nat_le (length ns) 4096) y.0 in
-    let w = both (is_tag below) (has_arm arms) z.0 in
+    let x = and_parts (((is_tag below && has_arm arms) && nat_le (length ns) 4096) && list_all (is_of_tag below) ns) (are_different ns) u in
+    let y = and_parts ((is_tag below && has_arm arms) && nat_le (length ns) 4096) (list_all (is_of_tag below) ns) x.0 in
+    let z = and_parts (is_tag below && has_arm arms) (nat_le (length ns) 4096) y.0 in
+    let w = and_parts (is_tag below) (has_arm arms) z.0 in
     let same : sign_in (face_of fs tag) ≡ tag_sign below = sign_is l ss fs l tag st.named w.0 in
     subst
     (λ s. IsRegular (type_of (choice s (arms_of fs arms)))) (sym same) (choice_regular fs below arms (λ items is.
@@ -226,10 +225,10 @@ union_weighs : (fs : List Face) (below : aoi.Shape) (s : Sign) (arms : aoi.Arms)
     → 1 ≤ weight (blank (type_of (choice s (arms_of fs arms))))
 union_weighs fs below s arms u =
     let ns : List ℤ = numbers_of arms in
-    let x = both (((is_tag below && has_arm arms) && nat_le (length ns) 4096) && list_all (is_of_tag below) ns) (are_different ns) u in
-    let y = both ((is_tag below && has_arm arms) && nat_le (length ns) 4096) (list_all (is_of_tag below) ns) x.0 in
-    let z = both (is_tag below && has_arm arms) (nat_le (length ns) 4096) y.0 in
-    let w = both (is_tag below) (has_arm arms) z.0 in
+    let x = and_parts (((is_tag below && has_arm arms) && nat_le (length ns) 4096) && list_all (is_of_tag below) ns) (are_different ns) u in
+    let y = and_parts ((is_tag below && has_arm arms) && nat_le (length ns) 4096) (list_all (is_of_tag below) ns) x.0 in
+    let z = and_parts (is_tag below && has_arm arms) (nat_le (length ns) 4096) y.0 in
+    let w = and_parts (is_tag below) (has_arm arms) z.0 in
     arm_weighs s (arms_of fs arms) (armed fs arms w.1)
 
 void_regular : IsRegular (type_of nothing)
@@ -243,14 +242,14 @@ mutual
   made_regular ss fs l (aoi.enumeration items) st h = (enum_regular items h, tt)
   made_regular ss fs l (aoi.text c) st h = (open_text c h, tt)
   made_regular ss fs l (aoi.array s c) st h =
-      let p = both (is_some_count c) (is_sound_type ss l s) h in
+      let p = and_parts (is_some_count c) (is_sound_type ss l s) h in
       array_regular c (face_of fs s) (made fs s) p.0 (made_weighs ss fs l s st p.1) (made_regular ss fs l s st p.1)
   made_regular ss fs l (aoi.structure ms) st h =
-      let p = both (has_member ms && are_distinct (names_of ms)) (are_sound ss l ms) h in
+      let p = and_parts (has_member ms && are_distinct (names_of ms)) (are_sound ss l ms) h in
       regular_one (made_inside fs ms) _ (inside_regular ss fs l ms st p.1) (record { fit = refl; full = refl; labelled = λ r. refl })
   made_regular ss fs l (aoi.choice tag arms) st h =
-      let p = both (is_sound_type ss l tag && is_sound_union (unfolded l ss l tag) arms) (are_sound_arms ss l arms) h in
-      let q = both (is_sound_type ss l tag) (is_sound_union (unfolded l ss l tag) arms) p.0 in
+      let p = and_parts (is_sound_type ss l tag && is_sound_union (unfolded l ss l tag) arms) (are_sound_arms ss l arms) h in
+      let q = and_parts (is_sound_type ss l tag) (is_sound_union (unfolded l ss l tag) arms) p.0 in
       regular_one (made_after fs arms) _ (after_regular ss fs l arms st p.1) (union_regular ss fs l tag arms st q.0 q.1)
   made_regular ss fs l (aoi.optional s) st h =
       regular_one (made fs s) _ (made_regular ss fs l s st h) (record { fit = refl; full = refl; labelled = λ r. refl })
@@ -265,13 +264,13 @@ mutual
   made_weighs ss fs l (aoi.array s c) st h = array_weighs c (face_of fs s)
   made_weighs ss fs l (aoi.structure aoi.no_more) st h = absurd (true≢false (sym h))
   made_weighs ss fs l (aoi.structure (aoi.member n s ms)) st h =
-      let p = both (true && are_distinct (names_of (aoi.member n s ms))) (are_sound ss l (aoi.member n s ms)) h in
-      let q = both (is_sound_type ss l s) (are_sound ss l ms) p.1 in
+      let p = and_parts (true && are_distinct (names_of (aoi.member n s ms))) (are_sound ss l (aoi.member n s ms)) h in
+      let q = and_parts (is_sound_type ss l s) (are_sound ss l ms) p.1 in
       let w = made_weighs ss fs l s st q.0 in
       omega (arith, w)
   made_weighs ss fs l (aoi.choice tag arms) st h =
-      let p = both (is_sound_type ss l tag && is_sound_union (unfolded l ss l tag) arms) (are_sound_arms ss l arms) h in
-      let q = both (is_sound_type ss l tag) (is_sound_union (unfolded l ss l tag) arms) p.0 in
+      let p = and_parts (is_sound_type ss l tag && is_sound_union (unfolded l ss l tag) arms) (are_sound_arms ss l arms) h in
+      let q = and_parts (is_sound_type ss l tag) (is_sound_union (unfolded l ss l tag) arms) p.0 in
       union_weighs fs (unfolded l ss l tag) (sign_in (face_of fs tag)) arms q.1
   made_weighs ss fs l (aoi.optional s) st h = omega arith
   made_weighs ss fs l (aoi.named k) st h = st.weigh k (ltb-true k l h)
@@ -280,7 +279,7 @@ mutual
       → AreRegular (made_inside fs ms)
   inside_regular ss fs l aoi.no_more st h = tt
   inside_regular ss fs l (aoi.member n s ms) st h =
-      let p = both (is_sound_type ss l s) (are_sound ss l ms) h in
+      let p = and_parts (is_sound_type ss l s) (are_sound ss l ms) h in
       regular_both (made fs s) (made_inside fs ms) (made_regular ss fs l s st p.0) (inside_regular ss fs l ms st p.1)
 
   pub after_regular : (ss : List aoi.Shape) (fs : List Face) (l : ℕ) (arms : aoi.Arms) → Standing ss fs l → are_sound_arms ss l arms ≡ true
@@ -288,7 +287,7 @@ mutual
   after_regular ss fs l aoi.no_default st h = tt
   after_regular ss fs l (aoi.default s) st h = void_or ss fs l s h (made_regular ss fs l s st)
   after_regular ss fs l (aoi.arm n s arms) st h =
-      let p = both (or_void s (is_sound_type ss l s)) (are_sound_arms ss l arms) h in
+      let p = and_parts (or_void s (is_sound_type ss l s)) (are_sound_arms ss l arms) h in
       regular_both (made_after fs arms) (made fs s) (after_regular ss fs l arms st p.1)
       (void_or ss fs l s p.0 (made_regular ss fs l s st))
 

@@ -1,9 +1,9 @@
 -- Nodes that are put into a table, one after another, by induction on the faces and on a node's parts.
-use Rattle.std.proofs.Common.{◌≡◌, ◌≢◌, Bool, true, false, ◌||◌, ℕ, zero, suc, ◌+◌, ◌<◌, ℤ, List, [], ◌∷◌, ◌++◌, map, take, drop, length, nat_lt, nat_le, if◌then◌else◌, Option, None, Some, slice_get, refl, sym, ap, ◌∙◌, length-append, append_assoc, append-nil, arith}
+use Rattle.std.proofs.Common.{◌≡◌, ◌≢◌, Bool, true, false, ℕ, zero, suc, ◌+◌, ◌<◌, ℤ, List, [], ◌∷◌, ◌++◌, map, take, drop, length, nat_lt, nat_le, if◌then◌else◌, Option, None, Some, slice_get, refl, sym, ap, ◌∙◌, length-append, append_assoc, append-nil, arith}
 use Rattle.std.specs.List.{list_any, list_all}
 use Rattle.std.proofs.Math.ListN.{drop_of_length-le}
 use Rattle.std.proofs.Math.Seq.{drop-cons}
-use Rattle.std.proofs.lemmas.Bool.{lt-ltb, lt-leb}
+use Rattle.std.proofs.lemmas.Bool.{lt-ltb, lt-leb, or_right, or_parts}
 use Rattle.std.proofs.lemmas.List.{map_more}
 use Rattle.mint.specs.declared.node.Node.{Node}
 use Rattle.mint.specs.declared.node.Node.TheVariants as node
@@ -25,7 +25,6 @@ use Rattle.pres.specs.Regular.{is_ranged, IsRegular, AreRegular}
 use Rattle.pres.proofs.Facing.{level_agree, level_type, named_at}
 use Rattle.pres.proofs.Drafting.{drawn-length, level-at}
 use Rattle.pres.proofs.Measures.{at_take}
-use Rattle.pres.proofs.Rises.{neither}
 
 ids_below : (k : ℕ) (is : List ℕ) → AreBelow k is → list_all (λ i. nat_lt i k) is ≡ true
 ids_below k [] h = refl
@@ -61,17 +60,13 @@ regular_at (f ∷ fs) (suc k) h lt = regular_at fs k h.1 (omega arith)
 
 none_at : (p : Face → Bool) (fs : List Face) (k : ℕ) → list_any p fs ≡ false → k < length fs → p (at fs k) ≡ false
 none_at p [] k h lt = absurd (omega arith)
-none_at p (f ∷ fs) zero h lt = (neither (p f) _ h).0
-none_at p (f ∷ fs) (suc k) h lt = none_at p fs k ((neither (p f) _ h).1) (omega arith)
-
-or_yes : (a b : Bool) → b ≡ true → (a || b) ≡ true
-or_yes true b h = refl
-or_yes false b h = h
+none_at p (f ∷ fs) zero h lt = (or_parts (p f) _ h).0
+none_at p (f ∷ fs) (suc k) h lt = none_at p fs k ((or_parts (p f) _ h).1) (omega arith)
 
 some_at : (p : Face → Bool) (fs : List Face) (k : ℕ) → k < length fs → p (at fs k) ≡ true → list_any p fs ≡ true
 some_at p [] k lt h = absurd (omega arith)
 some_at p (f ∷ fs) zero lt h = rw h refl
-some_at p (f ∷ fs) (suc k) lt h = or_yes (p f) _ (some_at p fs k (omega arith) h)
+some_at p (f ∷ fs) (suc k) lt h = or_right (p f) _ (some_at p fs k (omega arith) h)
 
 -- a table with the first nodes of a sketch, and what is left
 pub record IsStage (s : Sketch) (m : List Node) (ps : List Shape) (rest : List Entry) : Type 0 where

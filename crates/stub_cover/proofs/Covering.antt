@@ -22,7 +22,6 @@ use Rattle.stub_flat.specs.Leaves.{leaves, ways_leave, width_of}
 use Rattle.stub_flat.specs.Flat.{Called, calls, way_calls}
 use Rattle.stub_flat.proofs.Found.{calls_first, calls_second}
 use Rattle.stub_flat.proofs.PartsTyped.{IsAt, IsOfNode, IsPart, node_typed, part_at, elements_part, present_part, arm_part, rest_part}
-use Rattle.stub_flat.proofs.Sets.{or_first, or_second}
 use Rattle.stub_cover.specs.Rooms.{Rooms, least, on, reached, raised, set, took, padded}
 use Rattle.stub_cover.specs.Covers.{is_plain, looped, Credit, unit_of, run_row, run, run_ways}
 use Rattle.cast_stub.proofs.Filled.{length-filled}
@@ -33,6 +32,7 @@ use Rattle.stub_cover.proofs.Lengths.{length_elements, few}
 use Rattle.stub_cover.proofs.Quiet.{quiet}
 use Rattle.stub_cover.proofs.Looping.{Ends, After, loop_leads}
 use Rattle.stub_cover.proofs.Rows.{Far, copy_leads, swap_leads, wide_leads}
+use Rattle.std.proofs.lemmas.Bool.{or_right, or_left}
 
 -- ---- credits
 
@@ -124,10 +124,10 @@ module _ (N : List Node) (table : IsTable N) (c : Calls) (h : Head) (Known : Cal
       → Reaches (After (least Y Z) (λ A. sum (way A) (ways A)) p) (if t then steps c h b w else case_steps c h cs n w) p a
   either j b cs n w Y Z way ways p a has true is same first rest =
       reaches_weaker (After Y way p) (After (least Y Z) (λ A. sum (way A) (ways A)) p) (steps c h b w) p a
-      (λ q d z. (least_holds_first Y Z 0 q d z.0, λ A g. or_first (way A (q % 8)) (ways A (q % 8)) (z.1 A g))) (first is)
+      (λ q d z. (least_holds_first Y Z 0 q d z.0, λ A g. or_left (way A (q % 8)) (ways A (q % 8)) (z.1 A g))) (first is)
   either j b cs n w Y Z way ways p a has false is same first rest =
       reaches_weaker (After Z ways p) (After (least Y Z) (λ A. sum (way A) (ways A)) p) (case_steps c h cs n w) p a
-      (λ q d z. (least_holds_second Y Z 0 q d z.0, λ A g. or_second (way A (q % 8)) (ways A (q % 8)) (z.1 A g))) (rest same)
+      (λ q d z. (least_holds_second Y Z 0 q d z.0, λ A g. or_right (way A (q % 8)) (ways A (q % 8)) (z.1 A g))) (rest same)
 
   mutual
     pub covered : (b : Block) (s : Spot) (cr : Credit) (R S : Rooms) (v : Val) → run N s b cr R ≡ Some S
@@ -224,9 +224,9 @@ module _ (N : List Node) (table : IsTable N) (c : Calls) (h : Head) (Known : Cal
         step (on_some (at i v) (if_present (steps c h body))) (steps c h r v) (least R k.0) S 0 (λ A. sum A (way A)) (leaves N s r) p a
         (reaches_on_some (After (least R k.0) (λ A. sum A (way A)) p) (at i v) (if_present (steps c h body)) p a (λ y is.
         reaches_present (After (least R k.0) (λ A. sum A (way A)) p) (steps c h body) y p a
-        (least_holds_first R k.0 0 p a bare, λ A g. or_first (A (p % 8)) (way A (p % 8)) g)
+        (least_holds_first R k.0 0 p a bare, λ A g. or_left (A (p % 8)) (way A (p % 8)) g)
         (λ w there. reaches_weaker (After k.0 way p) (After (least R k.0) (λ A. sum A (way A)) p) (steps c h body w) p a
-        (λ q b z. (least_holds_second R k.0 0 q b z.0, λ A g. or_second (A (q % 8)) (way A (q % 8)) (z.1 A g)))
+        (λ q b z. (least_holds_second R k.0 0 q b z.0, λ A g. or_right (A (q % 8)) (way A (q % 8)) (z.1 A g)))
         (covered body inner None R k.0 w k.1 first
         (present_part N node w (subst (IsOfNode N node) there (part_of i s v y typed is))) p a bare))))
         (λ q b w. covered r s None (least R k.0) S v k.2 second typed q b w)

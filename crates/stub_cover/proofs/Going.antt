@@ -3,15 +3,11 @@ use Rattle.std.proofs.Common.{◌≡◌, ◌⊎◌, inl, inr, ℕ, zero, suc, �
 use Rattle.wire_def.specs.Scalars.{gap}
 use Rattle.cast_stub.specs.Steps.{is_width}
 use Rattle.stub_flat.specs.Residues.{Residues, moved, comes, aligned, closed}
-use Rattle.stub_flat.proofs.Sets.{or_first, or_second, closed_has, closed_within, gap_turns}
+use Rattle.stub_flat.proofs.Sets.{closed_has, closed_within, gap_turns}
 use Rattle.cast_stub.proofs.Widths.{wide_is}
+use Rattle.std.proofs.lemmas.Bool.{or_right, or_left}
 
 -- ---- tests
-
-pub and_both : (x y : Bool) → (x && y) ≡ true → (x ≡ true) × (y ≡ true)
-and_both true true e = (refl, refl)
-and_both true false e = absurd cc
-and_both false y e = absurd cc
 
 pub implied : (x y : Bool) → (not x || y) ≡ true → x ≡ true → y ≡ true
 implied true true e h = refl
@@ -57,10 +53,10 @@ comes_at zero a A r lt h = absurd (omega (arith, lt))
 comes_at (suc k) a A r lt h =
     below_next (λ (j : ℕ). A j ≡ true → comes (suc k) a A ((j + gap j a) % 8) ≡ true) k r lt
     (λ (g : A k ≡ true).
-    or_first (A k && nat_eq ((k + gap k a) % 8) ((k + gap k a) % 8)) (comes k a A ((k + gap k a) % 8))
+    or_left (A k && nat_eq ((k + gap k a) % 8) ((k + gap k a) % 8)) (comes k a A ((k + gap k a) % 8))
     (together (A k) (nat_eq ((k + gap k a) % 8) ((k + gap k a) % 8)) g (eq-eqb ((k + gap k a) % 8) ((k + gap k a) % 8) refl)))
     (λ (l : r < k) (g : A r ≡ true).
-    or_second (A k && nat_eq ((k + gap k a) % 8) ((r + gap r a) % 8)) (comes k a A ((r + gap r a) % 8)) (comes_at k a A r l g))
+    or_right (A k && nat_eq ((k + gap k a) % 8) ((r + gap r a) % 8)) (comes k a A ((r + gap r a) % 8)) (comes_at k a A r l g))
     h
   where
     together : (x y : Bool) → x ≡ true → y ≡ true → (x && y) ≡ true

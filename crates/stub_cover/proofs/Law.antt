@@ -21,11 +21,11 @@ use Rattle.stub_cover.specs.Rooms.{on, only_room}
 use Rattle.stub_cover.specs.Covers.{run, list_runs, covers_at}
 use Rattle.stub_cover.specs.Laws.{CoversIsCovered}
 use Rattle.stub_cover.proofs.Leading.{room_of, Anywhere, Reaches, reaches_weaker, reaches_on_some}
-use Rattle.stub_cover.proofs.Going.{and_both}
 use Rattle.stub_cover.proofs.Rooms.{some_same, on_holds, only_holds}
 use Rattle.stub_cover.proofs.Listed.{calls_noted, one_passes}
 use Rattle.stub_cover.proofs.Looping.{After, there}
 use Rattle.stub_cover.proofs.Covering.{covered}
+use Rattle.std.proofs.lemmas.Bool.{and_parts}
 
 module _ (N : List Node) (table : IsTable N) (h : Head) (subs : ℕ → Option Block) (bs : List Block) (ts : Spots)
     (listed : (k : ℕ) → subs k ≡ slice_get bs k) (inner : AllAgree ts (calls_of_known N bs ts)) (runs : list_runs N bs ts ≡ true) where
@@ -67,7 +67,7 @@ at_spots N id code h v None table e passed typed meant = absurd cc
 at_spots N id code h v (Some ts) table e passed typed meant =
     let ops : Block = code_seen code.ops in
     let bs : List Block = map code_seen code.subs in
-    let t = and_both (is_some (run N (Some id) ops None (only_room 0 0))) (list_runs N bs ts) passed in
+    let t = and_parts (is_some (run N (Some id) ops None (only_room 0 0))) (list_runs N bs ts) passed in
     let r = there (run N (Some id) ops None (only_room 0 0)) t.0 in
     let found = spots_are N (Some id) ops bs ts e in
     let listed : (k : ℕ) → sub_at code.subs k ≡ slice_get bs k = λ k. sym (slice_get-map code_seen code.subs k) in

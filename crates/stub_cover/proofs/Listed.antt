@@ -9,8 +9,8 @@ use Rattle.stub_flat.specs.Flat.{Called, calls, Spots, calls_of_known}
 use Rattle.stub_flat.proofs.Found.{calls_first, calls_second}
 use Rattle.stub_cover.specs.Rooms.{on}
 use Rattle.stub_cover.specs.Covers.{run, list_runs}
-use Rattle.stub_cover.proofs.Going.{and_both}
 use Rattle.stub_cover.proofs.Rooms.{some_same}
+use Rattle.std.proofs.lemmas.Bool.{and_parts}
 
 -- the calls of a code with a node
 pub calls_noted : (P : Called → Type 0) (N : List Node) (bs : List Block) (ts : Spots) (k m : ℕ) (b : Block)
@@ -42,8 +42,8 @@ one_passes N (c ∷ bs) (t ∷ ts) zero b h e = record {
   spot = t;
   there = refl;
   runs = subst (λ (x : Block). is_some (run N t x None (on every 0)) ≡ true) (some_same c b e)
-      (and_both (is_some (run N t c None (on every 0))) (list_runs N bs ts) h).0;
+      (and_parts (is_some (run N t c None (on every 0))) (list_runs N bs ts) h).0;
 }
 one_passes N (c ∷ bs) (t ∷ ts) (suc k) b h e =
-    let r = one_passes N bs ts k b (and_both (is_some (run N t c None (on every 0))) (list_runs N bs ts) h).1 e in
+    let r = one_passes N bs ts k b (and_parts (is_some (run N t c None (on every 0))) (list_runs N bs ts) h).1 e in
     record { spot = r.spot; there = r.there; runs = r.runs }

@@ -7,9 +7,10 @@ use Rattle.stub_flat.specs.Residues.{Residues, closed}
 use Rattle.stub_cover.specs.Rooms.{Rooms, least, only_room, on, least_first}
 use Rattle.stub_cover.specs.Covers.{Turn, suffices, turns, most_turns, or_else, free_loop, bounded_loop, bare_loop, looped}
 use Rattle.stub_cover.proofs.Leading.{Leads, weaker, Beside, beside, Reaches, reaches_some, reaches_weaker, reaches_both}
-use Rattle.stub_cover.proofs.Going.{and_both, implied, below_next, residue, Goes, begins, goes_round}
+use Rattle.stub_cover.proofs.Going.{implied, below_next, residue, Goes, begins, goes_round}
 use Rattle.stub_cover.proofs.Rooms.{some_of, mapped_of, tested_of, some_same, Within, Holds, within_less, least_holds_first, least_holds_second, on_holds, only_holds, least_there}
 use Rattle.stub_cover.proofs.Quiet.{IsQuiet}
+use Rattle.std.proofs.lemmas.Bool.{and_parts}
 
 -- rooms hold with so many octets beside them, at a position to which a way leads from another
 abbrev pub Ends : Rooms → ℕ → (Residues → Residues) → ℕ → ℕ → ℕ → Type 0
@@ -25,7 +26,7 @@ suffices_at : (k : ℕ) (T : Turn) (u : ℕ) (A : Residues) → suffices k T u A
     → is_some (T (only_room r u)) ≡ true
 suffices_at zero T u A e r lt h = absurd (omega (arith, lt))
 suffices_at (suc k) T u A e r lt h =
-    let t = and_both (not (A k) || is_some (T (only_room k u))) (suffices k T u A) e in
+    let t = and_parts (not (A k) || is_some (T (only_room k u))) (suffices k T u A) e in
     below_next (λ (j : ℕ). A j ≡ true → is_some (T (only_room j u)) ≡ true) k r lt
     (implied (A k) (is_some (T (only_room k u))) t.0) (suffices_at k T u A t.1 r) h
 
@@ -125,7 +126,7 @@ module _ (T : Turn) (L : Residues → Residues) (f : Val → Steps) (Good : Val 
         by_free None e owed = absurd cc
         by_free (Some u) e owed =
             let t = tested_of (plain && suffices 8 T u reach) (Some (λ (z : ℕ). if reach z then least_first 8 R else None)) S e in
-            let tests = and_both plain (suffices 8 T u reach) t.0 in
+            let tests = and_parts plain (suffices 8 T u reach) t.0 in
             by_least (least_first 8 R) refl (least_there 8 R (p % 8) x a (residue p) h) tests.0 tests.1 t.1 (owed u refl)
           where
             by_least : (o : Option ℕ) → least_first 8 R ≡ o → Within o x a → plain ≡ true → suffices 8 T u reach ≡ true

@@ -10,8 +10,8 @@ use Rattle.cast_stub.specs.Block.{Block, stop, ensure, ensure_row, align, chunk,
 use Rattle.cast_stub.specs.Steps.{Step, Room, Pad, Stored, Widened, Copied, Patched, Steps, both, over, if_present, is_width, Calls, steps, case_steps, align_steps, chunk_steps, swapped, wide, copy_steps, swap_steps, wide_steps}
 use Rattle.stub_cover.specs.Covers.{is_plain, are_plain}
 use Rattle.stub_cover.proofs.Leading.{AreQuiet}
-use Rattle.stub_cover.proofs.Going.{and_both}
 use Rattle.stub_cover.proofs.Rooms.{some_same}
+use Rattle.std.proofs.lemmas.Bool.{and_parts}
 
 -- the steps, if they are defined, ensure nothing
 abbrev pub IsQuiet : Steps → Type 0
@@ -82,15 +82,15 @@ module _ (c : Calls) (h : Head) where
         (λ x. quiet_on_some (wide o x.1) (λ os. Some (Widened os (length x.1) ∷ []))
         (λ os. quiet_some (Widened os (length x.1) ∷ []) tt))) (quiet r v e)
     quiet (each p b r) v e =
-        let t = and_both (is_plain b) (is_plain r) e in
+        let t = and_parts (is_plain b) (is_plain r) e in
         quiet_both (on_some (on_some (at p v) elements_in) (over (steps c h b))) (steps c h r v)
         (quiet_on_some (on_some (at p v) elements_in) (over (steps c h b)) (quiet_over (steps c h b) (λ w. quiet b w t.0))) (quiet r v t.1)
     quiet (switch p cs r) v e =
-        let t = and_both (are_plain cs) (is_plain r) e in
+        let t = and_parts (are_plain cs) (is_plain r) e in
         quiet_both (on_some (on_some (at p v) arm_in) (λ a. case_steps c h cs a.0 a.1)) (steps c h r v)
         (quiet_on_some (on_some (at p v) arm_in) (λ a. case_steps c h cs a.0 a.1) (λ a. quiet_cases cs a.0 a.1 t.0)) (quiet r v t.1)
     quiet (if_there p b r) v e =
-        let t = and_both (is_plain b) (is_plain r) e in
+        let t = and_parts (is_plain b) (is_plain r) e in
         quiet_both (on_some (at p v) (if_present (steps c h b))) (steps c h r v)
         (quiet_on_some (at p v) (if_present (steps c h b)) (quiet_present (steps c h b) (λ w. quiet b w t.0))) (quiet r v t.1)
     quiet (patch x s o r) v e =
@@ -100,5 +100,5 @@ module _ (c : Calls) (h : Head) where
     quiet_cases no_default n w e = quiet_none
     quiet_cases (default b) n w e = quiet b w e
     quiet_cases (case m b cs) n w e =
-        let t = and_both (is_plain b) (are_plain cs) e in
+        let t = and_parts (is_plain b) (are_plain cs) e in
         quiet_if (int_eq n m) (steps c h b w) (case_steps c h cs n w) (quiet b w t.0) (quiet_cases cs n w t.1)

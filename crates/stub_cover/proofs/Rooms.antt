@@ -5,7 +5,8 @@ use Rattle.cast_stub.specs.Parts.{on_some}
 use Rattle.cast_stub.specs.Steps.{is_width}
 use Rattle.stub_flat.specs.Residues.{Residues}
 use Rattle.stub_cover.specs.Rooms.{Rooms, lesser, least, only_room, on, raised, set, has, have_first, took, padded_one, padded_first, padded, least_first}
-use Rattle.stub_cover.proofs.Going.{and_both, below_next, residue, moved_back, same_gap, same_end}
+use Rattle.stub_cover.proofs.Going.{below_next, residue, moved_back, same_gap, same_end}
+use Rattle.std.proofs.lemmas.Bool.{and_parts}
 
 -- ---- options
 
@@ -96,7 +97,7 @@ only_holds r x y p a e le = only_within (nat_eq (p % 8) r) x y a (eq-eqb (p % 8)
 all_have : (k n : ℕ) (R : Rooms) → have_first k n R ≡ true → (r : ℕ) → r < k → has n (R r) ≡ true
 all_have zero n R e r lt = absurd (omega (arith, lt))
 all_have (suc k) n R e r lt =
-    let t = and_both (has n (R k)) (have_first k n R) e in
+    let t = and_parts (has n (R k)) (have_first k n R) e in
     below_next (λ (j : ℕ). has n (R j) ≡ true) k r lt t.0 (all_have k n R t.1 r)
 
 less_within : (o : Option ℕ) (n x a : ℕ) → has n o ≡ true → Within o x a → (n ≤ a) × Within (option_map (λ z. z - n) o) x (a - n)

@@ -2,7 +2,7 @@
 use Rattle.std.proofs.Common.{◌≡◌, ℕ, zero, suc, ◌+◌, ◌-◌, ◌*◌, ◌%◌, ℤ, List, [], ◌∷◌, ◌++◌, length, replicate, Option, None, Some, option_map, Bool, true, false, if◌then◌else◌, nat_eq, is_some, IsTrue, refl, sym, ap, subst, ◌∙◌, arith}
 use Rattle.std.specs.List.{AllByRecursion, list_all}
 use Rattle.std.specs.Ordering.{int_eq}
-use Rattle.std.proofs.lemmas.Bool.{eqb-true}
+use Rattle.std.proofs.lemmas.Bool.{eqb-true, or_right, or_left}
 use Rattle.mint.specs.declared.kind.Kind.{Kind}
 use Rattle.mint.specs.declared.node.Node.{Node}
 use Rattle.mint.specs.Kinds.{in_range}
@@ -30,7 +30,7 @@ use Rattle.stub_flat.proofs.Ends.{Ends, provided_of, fitting, fit_two, At, Goes,
 use Rattle.stub_flat.proofs.Found.{calls_first, calls_second}
 use Rattle.stub_flat.proofs.PartsTyped.{IsAt, IsOfNode, IsPart, node_typed, part_at, length_part, elements_part, present_part, arm_part, rest_part, same_number}
 use Rattle.stub_flat.proofs.Rows.{words_over, image_words, swapped_words, wide_words, row_goes, row_there}
-use Rattle.stub_flat.proofs.Sets.{or_first, or_second, single_at, closed_has, closed_within, at_within, at_moved, at_padded, gap_turns}
+use Rattle.stub_flat.proofs.Sets.{single_at, closed_has, closed_within, at_within, at_moved, at_padded, gap_turns}
 use Rattle.stub_flat.proofs.Told.{Answers, over_all, for_present, tell, tell_way, told, lacks, misfits}
 use Rattle.cast_stub.proofs.Widths.{Wide, four, wide_is, width_wide}
 use Rattle.cast_stub.proofs.Filled.{some_of, mapped_of}
@@ -218,10 +218,10 @@ module _ (N : List Node) (table : IsTable N) (h : Head) (c : Calls) (d : Answers
       → (IsAt N (arm_spot m k) u → Goes (run b u o) (told d h i u o) U) → (all ≡ rest → Goes (on_some y (wrote 0 o)) (g o) V)
       → Goes (on_some (if q then steps c h b u else y) (wrote 0 o)) (if q then told d h i u o else g o) (sum U V)
   way_goes true n k m u t b i y g U V o all rest e has f more =
-      goes_in (run b u o) (told d h i u o) U (sum U V) (λ x at. or_first (U (length x % 8)) (V (length x % 8)) at)
+      goes_in (run b u o) (told d h i u o) U (sum U V) (λ x at. or_left (U (length x % 8)) (V (length x % 8)) at)
       (f (subst (λ (z : ℤ). IsAt N (arm_spot m z) u) (same_number n k e) (arm_part N m n u t)))
   way_goes false n k m u t b i y g U V o all rest e has f more =
-      goes_in (on_some y (wrote 0 o)) (g o) V (sum U V) (λ x at. or_second (U (length x % 8)) (V (length x % 8)) at) (more has)
+      goes_in (on_some y (wrote 0 o)) (g o) V (sum U V) (λ x at. or_right (U (length x % 8)) (V (length x % 8)) at) (more has)
 
   -- ---- by induction
 
@@ -352,8 +352,8 @@ module _ (N : List Node) (table : IsTable N) (h : Head) (c : Calls) (d : Answers
         let m = mapped_of (items N s r T) (if_present p x.0) i x.1.1 in
         let inside = calls_first IsAnswered (calls N inner b) (calls N s r) a in
         let behind = calls_second IsAnswered (calls N inner b) (calls N s r) a in
-        let first = some_goes (steps c h b) (told d h x.0) S U sp o (or_first (S (length o % 8)) (U (length o % 8)) here)
-        (λ w u. goes_in (run b w o) (told d h x.0 w o) U T (λ y at. or_second (S (length y % 8)) (U (length y % 8)) at)
+        let first = some_goes (steps c h b) (told d h x.0) S U sp o (or_left (S (length o % 8)) (U (length o % 8)) here)
+        (λ w u. goes_in (run b w o) (told d h x.0 w o) U T (λ y at. or_right (S (length y % 8)) (U (length y % 8)) at)
         (to_told b inner S U x.0 w o x.1.0 (block_goes b inner S x.0 w o x.1.0 u inside here))) (at p v) (part_at N table p s v t) in
         subst (λ (y : Items). Goes (run (if_there p b r) v o) (says (misfits h v r) y v o) (leaves N s r T)) m.1.1
         (op_goes (on_some (at p v) (steps_if_present (steps c h b))) (steps c h r v)

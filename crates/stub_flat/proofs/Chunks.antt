@@ -1,6 +1,6 @@
 -- A chunk appends the octets of its items where each of its numbers fits, else it has none, by induction on puts and cells.
 use Rattle.std.proofs.Common.{◌≡◌, ℕ, zero, suc, ◌+◌, ◌-◌, ◌*◌, ◌<◌, ℤ, pos, List, [], ◌∷◌, ◌++◌, length, map, replicate, Option, Some, None, option_map, Bool, true, false, if◌then◌else◌, nat_lt, ◌&&◌, refl, sym, ap, ◌∙◌, arith, append_assoc, append-nil}
-use Rattle.std.proofs.lemmas.Bool.{lt-ltb, ltb-true}
+use Rattle.std.proofs.lemmas.Bool.{lt-ltb, ltb-true, and_parts}
 use Rattle.std.proofs.lemmas.List.{length-map}
 use Rattle.mint.specs.Values.{Val}
 use Rattle.wire_def.specs.declared.head.Head.{Head}
@@ -35,10 +35,6 @@ through_some : {A : Type 0} (x : Option A) (k : A → Option (List ℕ)) (g : A 
 through_some None k g f e = refl
 through_some (Some a) k g f e = e a
 
-both_hold : (a b : Bool) → (a && b) ≡ true → (a ≡ true) × (b ≡ true)
-both_hold true b e = (refl, e)
-both_hold false b e = absurd cc
-
 -- a short descriptor is a word
 described_is : (name size n : ℕ) → descriptor name size n ≡ on_some (described name size n) (word 4 Little)
 described_is name size n = by (nat_lt name 256 && (nat_lt size 256 && nat_lt n 4096)) refl where
@@ -47,8 +43,8 @@ described_is name size n = by (nat_lt name 256 && (nat_lt size 256 && nat_lt n 4
 
   few : (nat_lt name 256 && (nat_lt size 256 && nat_lt n 4096)) ≡ true → m < 4294967296
   few t =
-      let a = both_hold (nat_lt name 256) (nat_lt size 256 && nat_lt n 4096) t in
-      let b = both_hold (nat_lt size 256) (nat_lt n 4096) a.1 in
+      let a = and_parts (nat_lt name 256) (nat_lt size 256 && nat_lt n 4096) t in
+      let b = and_parts (nat_lt size 256) (nat_lt n 4096) a.1 in
       omega (arith, ltb-true name 256 a.0, ltb-true size 256 b.0, ltb-true n 4096 b.1)
 
   by : (t : Bool) → (nat_lt name 256 && (nat_lt size 256 && nat_lt n 4096)) ≡ t

@@ -16,6 +16,7 @@ use Rattle.mint.proofs.Unfolding.{type_at-level}
 use Rattle.cast_stub.specs.Block.{Cases}
 use Rattle.cast_stub.specs.Parts.{on_some, field, in_group, at, elements_in, length_in}
 use Rattle.stub_flat.specs.Places.{Spot, node_of, field_spot, spot_at, element, present as present_spot, row_kind, has_length, arm_spot, has_case, all_have, rest_spot}
+use Rattle.std.proofs.lemmas.Bool.{and_parts}
 
 -- a value of the node at a place; any, where the place is not known
 abbrev pub IsAt : List Node → Spot → Val → Type 0
@@ -212,16 +213,12 @@ arm_part N (Some (node.Maybe i)) n w t = tt
 pub same_number : (n m : ℤ) → int_eq n m ≡ true → n ≡ m
 same_number n m e = (Decides-int_eq n m).0 e
 
-both_have : (a b : Bool) → (a && b) ≡ true → (a ≡ true) × (b ≡ true)
-both_have true b e = (refl, e)
-both_have false b e = absurd cc
-
 -- a number without a case is of the default arm, where each arm has a case
 rest_found : (arms : List (ℤ × ℕ)) (o : Option ℕ) (n : ℤ) (cs : Cases) → all_have arms cs ≡ true → has_case n cs ≡ false
     → arm_found arms o n ≡ o
 rest_found [] o n cs a f = refl
 rest_found (x ∷ arms) o n cs a f =
-    let t = both_have (has_case x.0 cs) (all_have arms cs) a in by (int_eq n x.0) refl t.0 (rest_found arms o n cs t.1 f)
+    let t = and_parts (has_case x.0 cs) (all_have arms cs) a in by (int_eq n x.0) refl t.0 (rest_found arms o n cs t.1 f)
   where
     by : (b : Bool) → int_eq n x.0 ≡ b → has_case x.0 cs ≡ true → arm_found arms o n ≡ o → (if b then Some x.1 else arm_found arms o n) ≡ o
     by true e has more =

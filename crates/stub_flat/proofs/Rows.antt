@@ -1,5 +1,5 @@
 -- A row operation appends what a loop over its numbers appends, by induction on the numbers.
-use Rattle.std.proofs.Common.{◌≡◌, ℕ, zero, suc, ◌-◌, ℤ, List, [], ◌∷◌, ◌++◌, length, map, reverse, Option, None, Some, Bool, true, false, IsTrue, ◌&&◌, refl, sym, ap, subst, ◌∙◌, append_assoc, append-nil}
+use Rattle.std.proofs.Common.{◌≡◌, ℕ, zero, suc, ◌-◌, ℤ, List, [], ◌∷◌, ◌++◌, length, map, reverse, Option, None, Some, IsTrue, refl, sym, ap, subst, ◌∙◌, append_assoc, append-nil}
 use Rattle.std.specs.List.{list_all}
 use Rattle.mint.specs.declared.kind.Kind.{Kind}
 use Rattle.mint.specs.declared.node.Node.{Node}
@@ -26,10 +26,7 @@ use Rattle.stub_flat.proofs.Told.{Answers, over_all, told}
 use Rattle.cast_stub.proofs.RowWords.{word_little, word_big}
 use Rattle.cast_stub.proofs.Widths.{Wide}
 use Rattle.cast_stub.proofs.Filled.{some_of}
-
-both_true : (a b : Bool) → IsTrue (a && b) → IsTrue a × IsTrue b
-both_true true b e = (refl, e)
-both_true false b e = absurd cc
+use Rattle.std.proofs.lemmas.Bool.{and_parts}
 
 -- ---- numbers one by one
 
@@ -42,7 +39,7 @@ pub image_words : (k : Kind) (ns : List ℤ) → IsTrue (list_all (in_range k) n
     → Some (x ++ image_of k ns) ≡ words_over (width k) Little ns x
 image_words k [] h x = ap (λ (l : List ℕ). Some l) (append-nil x)
 image_words k (n ∷ ns) h x =
-    let b = both_true (in_range k n) (list_all (in_range k) ns) h in
+    let b = and_parts (in_range k n) (list_all (in_range k) ns) h in
     ap (λ (l : List ℕ). Some l) (sym (append_assoc x (octets_of k n) (image_of k ns)))
     ∙ image_words k ns b.1 (x ++ octets_of k n)
     ∙ sym (ap (λ (y : Ends). on_some (on_some y (λ a. Some (x ++ a))) (words_over (width k) Little ns)) (word_little k n b.0))
@@ -51,7 +48,7 @@ pub swapped_words : (k : Kind) (ns : List ℤ) → IsTrue (list_all (in_range k)
     → Some (x ++ swapped k ns) ≡ words_over (width k) Big ns x
 swapped_words k [] h x = ap (λ (l : List ℕ). Some l) (append-nil x)
 swapped_words k (n ∷ ns) h x =
-    let b = both_true (in_range k n) (list_all (in_range k) ns) h in
+    let b = and_parts (in_range k n) (list_all (in_range k) ns) h in
     ap (λ (l : List ℕ). Some l) (sym (append_assoc x (reverse (octets_of k n)) (swapped k ns)))
     ∙ swapped_words k ns b.1 (x ++ reverse (octets_of k n))
     ∙ sym (ap (λ (y : Ends). on_some (on_some y (λ a. Some (x ++ a))) (words_over (width k) Big ns)) (word_big k n b.0))

@@ -1,6 +1,6 @@
 -- Sets of residues: what a way does not leave, and where octets and aligns lead.
 use Rattle.std.proofs.Common.{◌≡◌, ℕ, zero, suc, ◌+◌, ◌-◌, ◌%◌, ◌<◌, ◌≤◌, List, ◌++◌, length, replicate, Bool, true, false, not, ◌&&◌, ◌||◌, nat_eq, if◌then◌else◌, inl, inr, refl, sym, ap, subst, arith, length-append}
-use Rattle.std.proofs.lemmas.Bool.{cases_lt, eq-eqb}
+use Rattle.std.proofs.lemmas.Bool.{cases_lt, eq-eqb, and_from, or_right, or_left}
 use Rattle.std.proofs.lemmas.List.{length-replicate}
 use Rattle.wire_def.specs.Scalars.{gap}
 use Rattle.stub_flat.specs.Residues.{Residues, sum, moved, comes, aligned, within_first, is_within, size_first, closing, closed, single_first}
@@ -8,18 +8,6 @@ use Rattle.stub_flat.proofs.Ends.{At}
 use Rattle.cast_stub.proofs.Widths.{Wide, one, two, four, eight}
 
 -- ---- tests
-
-pub or_first : (a b : Bool) → a ≡ true → (a || b) ≡ true
-or_first true b e = refl
-or_first false b e = absurd cc
-
-pub or_second : (a b : Bool) → b ≡ true → (a || b) ≡ true
-or_second true b e = refl
-or_second false b e = e
-
-both_true : (a b : Bool) → a ≡ true → b ≡ true → (a && b) ≡ true
-both_true true b e f = f
-both_true false b e f = absurd cc
 
 implied : (a b c : Bool) → ((not a || b) && c) ≡ true → a ≡ true → b ≡ true
 implied true true c e f = refl
@@ -137,7 +125,7 @@ closing_has zero f S = λ r lt s. s
 closing_has (suc n) f S = by (is_within (f S) S) (closing_has n f (sum S (f S))) where
   by : (t : Bool) → Within (sum S (f S)) (closing n f (sum S (f S))) → Within S (if t then S else closing n f (sum S (f S)))
   by true more = λ r lt s. s
-  by false more = λ r lt s. more r lt (or_first (S r) (f S r) s)
+  by false more = λ r lt s. more r lt (or_left (S r) (f S r) s)
 
 closing_within : (n : ℕ) (f : Residues → Residues) (S : Residues) → 8 ≤ n + size_first 8 S → Within (f (closing n f S)) (closing n f S)
 closing_within zero f S le = λ r lt s. full_at 8 S r (omega (arith, le)) lt
@@ -167,11 +155,11 @@ at_moved n S o p long h =
 comes_there : (k a : ℕ) (S : Residues) (j r : ℕ) → j < k → S j ≡ true → (j + gap j a) % 8 ≡ r → comes k a S r ≡ true
 comes_there zero a S j r lt s e = absurd (omega (arith, lt))
 comes_there (suc k) a S j r lt s e = elim (cases_lt j k) [
-  | inl low ↦ or_second (S k && nat_eq ((k + gap k a) % 8) r) (comes k a S r) (comes_there k a S j r low s e)
+  | inl low ↦ or_right (S k && nat_eq ((k + gap k a) % 8) r) (comes k a S r) (comes_there k a S j r low s e)
   | inr top ↦
       let same : j ≡ k = omega (arith, lt, top) in
-      or_first (S k && nat_eq ((k + gap k a) % 8) r) (comes k a S r)
-      (both_true (S k) (nat_eq ((k + gap k a) % 8) r) (subst (λ (i : ℕ). S i ≡ true) same s)
+      or_left (S k && nat_eq ((k + gap k a) % 8) r) (comes k a S r)
+      (and_from (S k) (nat_eq ((k + gap k a) % 8) r) (subst (λ (i : ℕ). S i ≡ true) same s)
       (eq-eqb ((k + gap k a) % 8) r (subst (λ (i : ℕ). (i + gap i a) % 8 ≡ r) same e)))
 ]
 

@@ -1,9 +1,9 @@
 -- What the code of a row or text reads, and that of XDR.
-use Rattle.std.proofs.Common.{◌≡◌, ℕ, zero, suc, ◌+◌, ◌<◌, ℤ, pos, List, [], ◌∷◌, length, take, drop, Some, refl, sym, ap, subst, ◌∙◌, arith, Bool, true, false, ◌&&◌, if◌then◌else◌, not}
+use Rattle.std.proofs.Common.{◌≡◌, ℕ, zero, suc, ◌+◌, ◌<◌, ℤ, pos, List, [], ◌∷◌, length, take, drop, Some, refl, sym, ap, subst, ◌∙◌, arith, Bool, true, false, if◌then◌else◌, not}
 use Rattle.std.specs.Prelude.{nat_lt}
 use Rattle.std.specs.Int.{w8}
 use Rattle.std.specs.Ordering.{int_eq}
-use Rattle.std.proofs.lemmas.Bool.{ltb-true, ltb-false, lt-ltb, le-ltb}
+use Rattle.std.proofs.lemmas.Bool.{ltb-true, ltb-false, lt-ltb, le-ltb, and_from}
 use Rattle.std.proofs.lemmas.Bool.Decides.{Decides-int_eq, Decides-not}
 use Rattle.mint.specs.declared.kind.Kind.{Kind}
 use Rattle.mint.specs.declared.kind.Kind.TheVariants as kind
@@ -250,16 +250,12 @@ module _ (e : Encoding) (c : Callees) (a : Array) (test : ℕ → Bool) (fault :
       (λ (t : Place) j o. agrees-number (λ (q : ℕ). q ≡ t.pos + 1) (fill c (number_take e 1) (digit a) t)
       (read_octet test fault t.pos t.left) (octet-read t o)) n s tt oct
 
-both_true : (a b : Bool) → a ≡ true → b ≡ true → (a && b) ≡ true
-both_true true b t u = u
-both_true false b t u = t
-
 pub letter_passes : (b : Count) → IsOctetArray (text b) (may_stand (text b))
 letter_passes b zero t lt = refl
 letter_passes b (suc n) t lt =
     let some : nat_lt 0 (suc n) ≡ true = lt-ltb 0 (suc n) (omega arith) in
     let z : ℤ = pos (suc n) in
-    let letter : is_letter z ≡ true = both_true (in_range kind.Char z) (not (int_eq z (pos 0))) (lt-ltb (suc n) 256 lt)
+    let letter : is_letter z ≡ true = and_from (in_range kind.Char z) (not (int_eq z (pos 0))) (lt-ltb (suc n) 256 lt)
     ((Decides-not (int_eq z (pos 0)) (Decides-int_eq z (pos 0))).1 (λ e. differs n e)) in
     ap (λ (g : Bool). if g then gives (done (num z)) t else refuses) letter
     ∙ sym (ap (λ (g : Bool). if g then gives (done (num (pos (suc n)))) t else refuses) some) where

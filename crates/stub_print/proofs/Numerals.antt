@@ -1,14 +1,10 @@
 -- Numbers in decimal: those of std, and what they tell, by induction on a bound of the number.
-use Rattle.std.proofs.Common.{◌≡◌, ℕ, zero, suc, ◌+◌, ◌-◌, ◌*◌, ◌/◌, ◌%◌, ◌^◌, ◌<◌, ◌≤◌, ◌⊎◌, inl, inr, cond, ℤ, pos, negsuc, List, [], ◌∷◌, ◌++◌, length, refl, ap, ◌∙◌, arith, lt-ltb, le-ltb, FitsSigned}
-use Rattle.std.proofs.lemmas.Bool.{cases_order}
+use Rattle.std.proofs.Common.{◌≡◌, ℕ, zero, suc, ◌+◌, ◌-◌, ◌*◌, ◌/◌, ◌%◌, ◌^◌, ◌<◌, ◌≤◌, inl, inr, cond, ℤ, pos, negsuc, List, [], ◌∷◌, ◌++◌, length, refl, ap, ◌∙◌, arith, lt-ltb, le-ltb, FitsSigned}
+use Rattle.std.proofs.lemmas.Bool.{cases_lt}
 use Rattle.std.proofs.lemmas.Fmt.{decimal_by_steps_wide}
 use Rattle.std.specs.Fmt.{decimal, signed_decimal}
 use Rattle.std.specs.Int.{w128}
 use Rattle.stub_print.specs.Words.{digits, numeral, integer}
-
-pub below_or_not : (n m : ℕ) → (n < m) ⊎ (m ≤ n)
-below_or_not n m =
-    elim (cases_order n m) [ inl e ↦ inr (omega arith) | inr o ↦ elim o [ inl l ↦ inl l | inr g ↦ inr (omega arith) ] ]
 
 few : (k n : ℕ) → n < 10 → digits (suc k) n ≡ (48 + n) ∷ []
 few k n h = ap (λ t. cond t ((48 + n) ∷ []) (digits k (n / 10) ++ ((48 + n % 10) ∷ []))) (lt-ltb n 10 h)
@@ -55,7 +51,7 @@ last_value m n d tens ones = omega arith
 
 value_digits : (k n : ℕ) → n < k → value 0 (digits k n) ≡ n
 value_digits zero n h = absurd (omega arith)
-value_digits (suc k) n h = elim (below_or_not n 10) [
+value_digits (suc k) n h = elim (cases_lt n 10) [
   | inl l ↦ ap (value 0) (few k n l) ∙ omega arith
   | inr g ↦ ap (value 0) (more k n g) ∙ value-append 0 (digits k (n / 10)) ((48 + n % 10) ∷ [])
       ∙ last_value (value 0 (digits k (n / 10))) n (n % 10) (value_digits k (n / 10) (omega arith)) refl
@@ -78,7 +74,7 @@ AreDigits-append (x ∷ xs) ys h k = (h.0, AreDigits-append xs ys h.1 k)
 
 digits_are : (k n : ℕ) → AreDigits (digits k n)
 digits_are zero n = tt
-digits_are (suc k) n = elim (below_or_not n 10) [
+digits_are (suc k) n = elim (cases_lt n 10) [
   | inl l ↦ rw (few k n l) (omega arith, tt)
   | inr g ↦ rw (more k n g) (AreDigits-append (digits k (n / 10)) ((48 + n % 10) ∷ []) (digits_are k (n / 10)) (omega arith, tt))
 ]
@@ -92,7 +88,7 @@ some [] d = omega arith
 some (x ∷ xs) d = omega arith
 
 some_digits : (k n : ℕ) → 0 < length (digits (suc k) n)
-some_digits k n = elim (below_or_not n 10) [
+some_digits k n = elim (cases_lt n 10) [
   | inl l ↦ rw (few k n l) (omega arith)
   | inr g ↦ rw (more k n g) (some (digits k (n / 10)) (48 + n % 10))
 ]

@@ -6,7 +6,8 @@ use Rattle.kit_base.specs.Lines.{HasNoEnd}
 use Rattle.wire_def.specs.declared.head.Order.{Order}
 use Rattle.wire_def.specs.declared.head.Order.TheVariants.{Big, Little}
 use Rattle.stub_print.specs.Words.{numeral, integer, points, path_word, order_word, hex_digit, hex, words, line}
-use Rattle.stub_print.proofs.Numerals.{below_or_not, value, value_numeral, AreDigits, numeral_digits, numeral_some}
+use Rattle.stub_print.proofs.Numerals.{value, value_numeral, AreDigits, numeral_digits, numeral_some}
+use Rattle.std.proofs.lemmas.Bool.{and_parts, and_from, cases_lt}
 
 -- ---- lines and words
 
@@ -41,14 +42,6 @@ abbrev pub rows : List ℕ → List Line
 rows [] = []
 rows (c ∷ cs) = if eqb c 10 then ([] ∷ []) ∷ rows cs else (if eqb c 32 then new_word (rows cs) else with_octet c (rows cs))
 
-both_true : (a b : Bool) → a && b ≡ true → (a ≡ true) × (b ≡ true)
-both_true true b h = (refl, h)
-both_true false b h = absurd cc
-
-pub true_both : (a b : Bool) → a ≡ true → b ≡ true → a && b ≡ true
-true_both true b g h = h
-true_both false b g h = absurd cc
-
 neither : (a b : Bool) (x y z : List Line) → not a && not b ≡ true → (if a then x else (if b then y else z)) ≡ z
 neither false false x y z h = refl
 neither false true x y z h = absurd cc
@@ -60,7 +53,7 @@ rows_octet c r h = neither (eqb c 10) (eqb c 32) (([] ∷ []) ∷ rows r) (new_w
 rows_word : (w r : List ℕ) (ws : Line) (ls : List Line) → IsClean w → rows r ≡ ([] ∷ ws) ∷ ls → rows (w ++ r) ≡ (w ∷ ws) ∷ ls
 rows_word [] r ws ls h e = e
 rows_word (c ∷ w) r ws ls h e =
-    let clean = both_true (is_clean c) (list_all is_clean w) h in
+    let clean = and_parts (is_clean c) (list_all is_clean w) h in
     rows_octet c (w ++ r) clean.0 ∙ ap (with_octet c) (rows_word w r ws ls clean.1 e)
 
 rows_words : (ws : Line) (rest : List ℕ) → AreClean ws → rows (words ws rest) ≡ ([] ∷ ws) ∷ rows rest
@@ -107,7 +100,7 @@ digit_clean c h =
 
 pub digits_clean : (w : List ℕ) → AreDigits w → IsClean w
 digits_clean [] h = refl
-digits_clean (c ∷ w) h = true_both (is_clean c) (list_all is_clean w) (digit_clean c h.0) (digits_clean w h.1)
+digits_clean (c ∷ w) h = and_from (is_clean c) (list_all is_clean w) (digit_clean c h.0) (digits_clean w h.1)
 
 pub clean_numeral : (n : ℕ) → IsClean (numeral n)
 clean_numeral n = digits_clean (numeral n) (numeral_digits n)
@@ -183,8 +176,8 @@ path_read (n ∷ ns) = ap numbers_in (points_read (n ∷ ns))
 clean-append : (v w : List ℕ) → IsClean v → IsClean w → IsClean (v ++ w)
 clean-append [] w h k = k
 clean-append (c ∷ v) w h k =
-    let clean = both_true (is_clean c) (list_all is_clean v) h in
-    true_both (is_clean c) (list_all is_clean (v ++ w)) clean.0 (clean-append v w clean.1 k)
+    let clean = and_parts (is_clean c) (list_all is_clean v) h in
+    and_from (is_clean c) (list_all is_clean (v ++ w)) clean.0 (clean-append v w clean.1 k)
 
 clean_points : (ns : List ℕ) → IsClean (points ns)
 clean_points [] = refl
@@ -242,7 +235,7 @@ high_in : (c : ℕ) → 58 ≤ c → digit_in c ≡ c - 87
 high_in c g = ap (λ t. cond t (c - 48) (c - 87)) (le-ltb c 58 g)
 
 digit_read : (d : ℕ) → digit_in (hex_digit d) ≡ d
-digit_read d = elim (below_or_not d 10) [
+digit_read d = elim (cases_lt d 10) [
   | inl l ↦ ap digit_in (low_digit d l) ∙ low_in (48 + d) (omega arith) ∙ omega arith
   | inr g ↦ ap digit_in (high_digit d g) ∙ high_in (87 + d) (omega arith) ∙ omega arith
 ]
@@ -259,7 +252,7 @@ hex_read (o ∷ os) =
     ∙ ap (λ z. o ∷ z) (hex_read os)
 
 hex_digit_from : (d : ℕ) → 48 ≤ hex_digit d
-hex_digit_from d = elim (below_or_not d 10) [
+hex_digit_from d = elim (cases_lt d 10) [
   | inl l ↦ rw (low_digit d l) (omega arith)
   | inr g ↦ rw (high_digit d g) (omega arith)
 ]

@@ -1,13 +1,12 @@
 -- The words of a line are read as what they are printed from, by induction on digits and on lists.
 use Rattle.std.proofs.Common.{◌≡◌, ◌≢◌, ℕ, zero, suc, ◌+◌, ◌-◌, ◌*◌, ◌/◌, ◌%◌, ◌^◌, ◌<◌, ◌≤◌, inl, inr, Bool, true, false, not, ◌&&◌, ◌||◌, ◌==◌, cond, ℤ, pos, negsuc, List, [], ◌∷◌, ◌++◌, length, take, drop, Some, None, refl, sym, ap, ◌∙◌, append_assoc, arith, codes, le-leb, ne_eqb, lt-ltb, le-ltb, ltb, leb, length-append}
 use Rattle.std.specs.List.{prefix_len}
-use Rattle.std.proofs.lemmas.Bool.{false≢true, and_from, and_right, lt-leb}
+use Rattle.std.proofs.lemmas.Bool.{false≢true, and_from, and_right, lt-leb, cases_lt}
 use Rattle.std.proofs.lemmas.List.Elements.{All-head, All-tail}
 use Rattle.kit_base.specs.Lines.{HasNoEnd}
 use Rattle.wire_def.specs.declared.head.Order.{Order}
 use Rattle.wire_def.specs.declared.head.Order.TheVariants.{Big, Little}
 use Rattle.stub_print.specs.Words.{digits, numeral, integer, points, path_word, order_word, hex_digit, hex}
-use Rattle.stub_print.proofs.Numerals.{below_or_not}
 use Rattle.stub_read.specs.Reading.{Read, Reader, then_on, map_read, begins, word_at, mapped, before, repeat}
 use Rattle.stub_read.specs.Words.{space, feed, is_digit, begins_digit, digits_on, most_word, number_at, most_signed, minus, integer_at, begins_field, point_at, fields_at, bare_path_at, path_at, order_at, is_hex, hex_value, hex_digit_at, octets_at, parted_at, line_at}
 use Rattle.stub_read.proofs.Loops.{ends_none, one_more}
@@ -36,7 +35,7 @@ one_digit most m d n t l is fits =
 -- digits are read on as the number that they write
 digits_read : (k most n : ℕ) (t : List ℕ) → n < k → n ≤ most → digits_on most 0 (digits k n ++ t) ≡ digits_on most n t
 digits_read zero most n t h fits = absurd (omega arith)
-digits_read (suc k) most n t h fits = elim (below_or_not n 10) [
+digits_read (suc k) most n t h fits = elim (cases_lt n 10) [
   | inl l ↦ ap (λ w. digits_on most 0 (w ++ t)) (few k n l) ∙ one_digit most 0 n n t l (omega arith) fits
   | inr g ↦ ap (λ w. digits_on most 0 (w ++ t)) (more k n g)
       ∙ ap (digits_on most 0) (append_assoc (digits k (n / 10)) ((48 + n % 10) ∷ []) t)
@@ -55,7 +54,7 @@ numeral_reads most n c t fits ends = digits_read (suc n) most n (c ∷ t) (omega
 -- the first octet of a number is a digit
 first_digit : (k n : ℕ) (t : List ℕ) → n < k → begins_digit (digits k n ++ t) ≡ true
 first_digit zero n t h = absurd (omega arith)
-first_digit (suc k) n t h = elim (below_or_not n 10) [
+first_digit (suc k) n t h = elim (cases_lt n 10) [
   | inl l ↦ ap (λ w. begins_digit (w ++ t)) (few k n l) ∙ digit_is n l
   | inr g ↦ ap (λ w. begins_digit (w ++ t)) (more k n g) ∙ ap begins_digit (append_assoc (digits k (n / 10)) ((48 + n % 10) ∷ []) t)
       ∙ first_digit k (n / 10) ((48 + n % 10) ∷ t) (omega arith)
@@ -187,7 +186,7 @@ high_reads d t g l =
     (ap (λ b. cond b ((87 + d) - 48) ((87 + d) - 87)) (lt-leb (87 + d) 57 (omega arith)) ∙ omega arith)
 
 digit_reads : (d : ℕ) (t : List ℕ) → d < 16 → hex_digit_at (hex_digit d ∷ t) ≡ Some (d, t)
-digit_reads d t l = elim (below_or_not d 10) [
+digit_reads d t l = elim (cases_lt d 10) [
   | inl s ↦ ap (λ b. hex_digit_at (cond b (48 + d) (87 + d) ∷ t)) (lt-ltb d 10 s) ∙ low_reads d t s
   | inr g ↦ ap (λ b. hex_digit_at (cond b (48 + d) (87 + d) ∷ t)) (le-ltb d 10 g) ∙ high_reads d t g l
 ]

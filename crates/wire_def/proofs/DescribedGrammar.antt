@@ -2,7 +2,7 @@
 use Rattle.std.proofs.Common.{◌≡◌, ◌⊎◌, ℕ, ◌+◌, ◌*◌, ◌-◌, ◌/◌, ◌%◌, ◌^◌, ◌<◌, ◌≤◌, List, [], ◌++◌, length, Bool, true, false, ◌&&◌, cond, refl, sym, arith}
 use Rattle.std.specs.Prelude.{MatchBool, nat_eq}
 use Rattle.std.specs.Int.{w32, w64}
-use Rattle.std.proofs.lemmas.Bool.{ltb-false, le-leb, leb-true, eq-eqb, eqb-true}
+use Rattle.std.proofs.lemmas.Bool.{ltb-false, le-leb, leb-true, eq-eqb, eqb-true, and_from}
 use Rattle.std.proofs.lemmas.List.{append-nil}
 use Rattle.std.proofs.Math.Nat.{mul-le-mul_left, mul-le-mul_right}
 use Rattle.kit_base.specs.Bytes.{le}
@@ -214,10 +214,6 @@ widened_short name bits k h j few =
     let three : short_word name bits k / 65536 % 4096 ≡ k = omega arith in
     rw (one, two, three) refl
 
-both_true : (a b : Bool) → a ≡ true → b ≡ true → a && b ≡ true
-both_true true b h j = j
-both_true false b h j = absurd cc
-
 right_of : (c : Count) (s : Scalar) (n : ℕ) → Allows c n → is_right c s (long_words (unit_name s) (unit_bits s) (n * units_of s)) ≡ true
 right_of c s n h =
     let small : unit_name s < 65536 = omega (arith, name_small s) in
@@ -227,8 +223,8 @@ right_of c s n h =
     let d : ℕ = long_words (unit_name s) (unit_bits s) (n * units_of s) in
     let whole : is_whole s (d / 2 ^ 32) ≡ true = rw high (whole_of s n) in
     let fixed : is_fixed c s (d / 2 ^ 32) ≡ true = rw high (fixed_of c s n h) in
-    both_true (nat_eq (d % 2 ^ 32) (long_words (unit_name s) (unit_bits s) 0)) (is_whole s (d / 2 ^ 32) && is_fixed c s (d / 2 ^ 32))
-    (eq-eqb _ _ low) (both_true (is_whole s (d / 2 ^ 32)) (is_fixed c s (d / 2 ^ 32)) whole fixed)
+    and_from (nat_eq (d % 2 ^ 32) (long_words (unit_name s) (unit_bits s) 0)) (is_whole s (d / 2 ^ 32) && is_fixed c s (d / 2 ^ 32))
+    (eq-eqb _ _ low) (and_from (is_whole s (d / 2 ^ 32)) (is_fixed c s (d / 2 ^ 32)) whole fixed)
 
 many_of : (s : Scalar) (n : ℕ) → elements_in s (long_words (unit_name s) (unit_bits s) (n * units_of s) / 2 ^ 32) ≡ n
 many_of s n =

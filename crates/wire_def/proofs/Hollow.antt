@@ -1,19 +1,14 @@
 -- Nothing is sent exactly for types without octets, by mutual induction on types and fields.
-use Rattle.std.proofs.Common.{◌≡◌, ◌↔◌, ℕ, ◌+◌, ◌≤◌, List, [], ◌∷◌, length, Bool, true, false, ◌&&◌, refl, arith}
-use Rattle.mint.specs.Types.{Ty, void_type, scalar_type, array_type, group_type, items_type, choice_type, maybe_type, Tys, no_fields, field}
-use Rattle.mint.specs.Values.{Val, group, Vals, no_more, val}
-use Rattle.mint.specs.Sound.{IsSound}
-use Rattle.mint.specs.Typed.{IsWellTyped}
+use Rattle.std.proofs.Common.{◌≡◌, ℕ, ◌+◌, ◌≤◌, List, [], ◌∷◌, length, Bool, true, false, refl, arith}
+use Rattle.mint.specs.Types.{Ty, void_type, group_type, Tys, field}
+use Rattle.mint.specs.Values.{Val, group, Vals, val}
 use Rattle.wire_def.specs.declared.encoding.Encoding.{Encoding}
 use Rattle.wire_def.specs.Send.{followed, send, send_fields}
 use Rattle.wire_def.specs.Hollow.{is_hollow, are_hollow, HollowIsEmpty}
 use Rattle.wire_def.proofs.Sound.{room}
 use Rattle.wire_def.proofs.Room.{filled}
 use Rattle.wire_def.proofs.Encodings.{sent_spells}
-
-both : (a b : Bool) → a && b ≡ true → (a ≡ true) × (b ≡ true)
-both true b h = (refl, h)
-both false b h = absurd cc
+use Rattle.std.proofs.lemmas.Bool.{and_parts}
 
 -- nothing, and then nothing
 nothing_after : (p : ℕ) (o : List ℕ) (more : ℕ → List ℕ) → o ≡ [] → ((q : ℕ) → more q ≡ []) → followed p o more ≡ []
@@ -31,7 +26,7 @@ mutual
 
   fields_empty : (e : Encoding) (ts : Tys) → are_hollow ts ≡ true → (p : ℕ) (vs : Vals) → send_fields e ts p vs ≡ []
   fields_empty e (field t ts) h p (val v vs) =
-      let parts = both (is_hollow t) (are_hollow ts) h in
+      let parts = and_parts (is_hollow t) (are_hollow ts) h in
       nothing_after p (send e t p v) (λ q. send_fields e ts q vs) (empty e t parts.0 p v) (λ q. fields_empty e ts parts.1 q vs)
   fields_empty e _ h p _ = refl
 

@@ -1,7 +1,7 @@
 -- What a table refuses leaves types whose values take room, by mutual induction on types, fields and arms.
-use Rattle.std.proofs.Common.{◌≡◌, ℕ, zero, suc, ◌<◌, ◌≤◌, Bool, true, false, ◌||◌, ◌&&◌, cond, None, Some, refl, arith}
+use Rattle.std.proofs.Common.{◌≡◌, ℕ, zero, suc, ◌<◌, ◌≤◌, Bool, true, false, ◌||◌, cond, None, Some, refl, arith}
 use Rattle.std.specs.Prelude.{nat_eq, nat_lt}
-use Rattle.std.proofs.lemmas.Bool.{ltb-false}
+use Rattle.std.proofs.lemmas.Bool.{ltb-false, and_parts}
 use Rattle.mint.specs.declared.kind.Count.{Count}
 use Rattle.mint.specs.declared.kind.Count.TheVariants.{Exactly, AtMost, Any}
 use Rattle.mint.specs.declared.errors.MintErr.{MintErr}
@@ -73,10 +73,6 @@ array_some : (a : Array) → is_empty (array_type a) ≡ false → IsCount (coun
 array_some (text c) h = count_some c h
 array_some (row_of k c) h = count_some c h
 
-both : (a b : Bool) → a && b ≡ true → (a ≡ true) × (b ≡ true)
-both true b h = (refl, h)
-both false b h = absurd cc
-
 -- a type whose blank value weighs something has octets
 mutual
   weightless : (t : Ty) → is_hollow t ≡ true → weight (blank t) ≡ 0
@@ -87,7 +83,7 @@ mutual
   fields_weightless : (ts : Tys) → are_hollow ts ≡ true → weights (blanks ts) ≡ 0
   fields_weightless no_fields h = refl
   fields_weightless (field t ts) h =
-      let parts = both (is_hollow t) (are_hollow ts) h in
+      let parts = and_parts (is_hollow t) (are_hollow ts) h in
       omega (arith, weightless t parts.0, fields_weightless ts parts.1)
 
 weighs : (n : ℕ) → nat_eq n 0 ≡ false → n ≡ 0 → ⊥

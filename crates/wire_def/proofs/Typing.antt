@@ -1,8 +1,8 @@
 -- Octets that are a value make it one of the type, by mutual induction on types, fields and arms.
-use Rattle.std.proofs.Common.{◌≡◌, ℕ, zero, suc, ◌+◌, ◌<◌, ℤ, pos, List, [], ◌∷◌, length, Bool, ◌&&◌, not, true, false, ltb, int_eq, refl, sym, arith}
+use Rattle.std.proofs.Common.{◌≡◌, ℕ, zero, suc, ◌+◌, ◌<◌, ℤ, pos, List, [], ◌∷◌, length, Bool, not, true, false, ltb, int_eq, refl, sym, arith}
 use Rattle.std.specs.Prelude.{MatchBool}
 use Rattle.std.specs.List.{list_all}
-use Rattle.std.proofs.lemmas.Bool.{ltb-true, lt-ltb, leb-true}
+use Rattle.std.proofs.lemmas.Bool.{ltb-true, lt-ltb, leb-true, and_from}
 use Rattle.std.proofs.lemmas.Bool.Decides.{Decides-int_eq, Decides-not}
 use Rattle.mint.specs.declared.kind.Kind.{Kind}
 use Rattle.mint.specs.declared.kind.Kind.TheVariants as kind
@@ -22,10 +22,6 @@ use Rattle.wire_def.specs.Spells.{Spells, FieldsSpell, ArmSpells}
 use Rattle.wire_def.proofs.Grammars.{octets_after, octets_before}
 use Rattle.wire_def.proofs.DescribedGrammar.{allows, described_typed}
 use Rattle.wire_def.proofs.Sent.{is_element}
-
-both_true : (a b : Bool) → a ≡ true → b ≡ true → a && b ≡ true
-both_true true b h j = j
-both_true false b h j = absurd cc
 
 match_both : (b : Bool) {P Q R S : Type 0} → MatchBool b P Q → (P → R) → (Q → S) → MatchBool b R S
 match_both true h f g = f h
@@ -73,7 +69,7 @@ letter_typed zero h ok = absurd (omega (arith, ltb-true 0 0 ok))
 letter_typed (suc b) h ok =
     let differs : pos (suc b) ≡ pos 0 → ⊥ = λ (same : pos (suc b) ≡ pos 0). cc in
     let test = int_eq (pos (suc b)) (pos 0) in
-    both_true (ltb (suc b) 256) (not test) (lt-ltb (suc b) 256 h) ((Decides-not test (Decides-int_eq (pos (suc b)) (pos 0))).1 differs)
+    and_from (ltb (suc b) 256) (not test) (lt-ltb (suc b) 256 h) ((Decides-not test (Decides-int_eq (pos (suc b)) (pos 0))).1 differs)
 
 element_typed : (e : Encoding) (a : Array) (p : ℕ) (o : List ℕ) (n : ℤ) → AreOctets o → ElementSpells e a p o n → is_element a n ≡ true
 unfolding ElementSpells
@@ -92,7 +88,7 @@ elements_typed S test one zero p o (x ∷ xs) oct h = absurd h
 elements_typed S test one (suc n) p o [] oct h = absurd h
 elements_typed S test one (suc n) p o (x ∷ xs) oct (a, b, is, first, more) =
     let whole = rw is at oct in
-    both_true (test x) (list_all test xs) (one p a x (octets_before a b whole) first)
+    and_from (test x) (list_all test xs) (one p a x (octets_before a b whole) first)
     (elements_typed S test one n (p + length a) b xs (octets_after a b whole) more)
 
 array_typed : (e : Encoding) (a : Array) (p : ℕ) (o : List ℕ) (ns : List ℤ) → AreOctets o → ArraySpells e a p o ns

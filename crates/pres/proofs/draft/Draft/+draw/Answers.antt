@@ -7,9 +7,10 @@ use Rattle.pres.specs.Faces.{arms_at, choice}
 use Rattle.pres.specs.Made.{made_after}
 use Rattle.pres.specs.Offers.{face_of, sign_in}
 use Rattle.pres.specs.Drafts.{drawn, known}
-use Rattle.pres.proofs.Drawn.{both, overflows_more, grows_twice, field_left, field_nodes, field_ids, members_by, names_each, arm_drawable, other_drawable, arms_drawable_alone, arm_nodes, arm_room, arm_on, after_split, choice_arms, choice_nodes, made_split, node_after, drawn_as, after_overflows, next_overflows, last_overflows, on_ok, if_ok, if_err, handed_on, cause_last}
+use Rattle.pres.proofs.Drawn.{overflows_more, grows_twice, field_left, field_nodes, field_ids, members_by, names_each, arm_drawable, other_drawable, arms_drawable_alone, arm_nodes, arm_room, arm_on, after_split, choice_arms, choice_nodes, made_split, node_after, drawn_as, after_overflows, next_overflows, last_overflows, on_ok, if_ok, if_err, handed_on, cause_last}
 use Rattle.pres.proofs.Arrayed.{arrayed_drawable, element_placed, none_yet, row_on, row_last, room_for_row, room_for_element}
 use Rattle.pres.proofs.draft.Draft.+draw.Goals as goal
+use Rattle.std.proofs.lemmas.Bool.{and_parts}
 
 -- ---- fields
 
@@ -32,12 +33,12 @@ draw_fields-loop-field-preserved t c =
     }
 
 pub draw_struct-draw_fields-requires : goal.draw_struct-draw_fields-requires
-draw_struct-draw_fields-requires t c = (search (rules, the_lemmas), (both _ _ c.requires).1)
+draw_struct-draw_fields-requires t c = (search (rules, the_lemmas), (and_parts _ _ c.requires).1)
 
 pub draw_struct-push-requires-clause-named : goal.draw_struct-push-requires-clause-named
 draw_struct-push-requires-clause-named t c = record {
   each = ap length c.in_ok-names.ensures ∙ names_each _ _ _ _ c.in_ok-ids.ensures.ids.are;
-  distinct = rw c.in_ok-names.ensures ((both _ _ c.requires).0);
+  distinct = rw c.in_ok-names.ensures ((and_parts _ _ c.requires).0);
 }
 
 pub draw_struct-returns-clause-grows : goal.draw_struct-returns-clause-grows
@@ -148,21 +149,21 @@ draw_arrays-returns-clause-cause t c =
 pub draw-draw_other-requires : goal.draw-draw_other-requires
 draw-draw_other-requires t c =
     let drawable = rw (ap aoi.seen c.in-Union.is ∙ choice_seen c.in-Union.tag c.in-Union.arms c.in-Union.other) at c.requires in
-    (search (rules, the_lemmas), other_drawable _ c.in-Union.arms _ ((both _ _ drawable).1))
+    (search (rules, the_lemmas), other_drawable _ c.in-Union.arms _ ((and_parts _ _ drawable).1))
 
 pub draw-draw_arms-requires : goal.draw-draw_arms-requires
 draw-draw_arms-requires t c =
     let drawable = rw (ap aoi.seen c.in-Union.is ∙ choice_seen c.in-Union.tag c.in-Union.arms c.in-Union.other) at c.requires in (
       search (rules, the_lemmas),
       rw (c.in_ok-other-in-Union.ensures.grows.types, c.as_slice-in-Union.ensures)
-          (arms_drawable_alone _ _ c.in-Union.arms ((both _ _ drawable).1)),
+          (arms_drawable_alone _ _ c.in-Union.arms ((and_parts _ _ drawable).1)),
     )
 
 pub draw-draw_choice-requires-clause-tag : goal.draw-draw_choice-requires-clause-tag
 draw-draw_choice-requires-clause-tag t c =
     let drawable = rw (ap aoi.seen c.in-Union.is ∙ choice_seen c.in-Union.tag c.in-Union.arms c.in-Union.other) at c.requires in
     rw (c.in_ok-arms-in-Union.ensures.grows.types, c.in_ok-other-in-Union.ensures.grows.types, c.deref-in-Union.ensures)
-    ((both _ _ drawable).0)
+    ((and_parts _ _ drawable).0)
 
 pub draw-returns-in_err-other-in-Union-clause-cause : goal.draw-returns-in_err-other-in-Union-clause-cause
 draw-returns-in_err-other-in-Union-clause-cause t c =
