@@ -21,7 +21,8 @@ negat : (n r m most : ℕ) → n < most → r ≡ m → (if nat_lt n most then S
 negat n r m most lt same = if_so (nat_lt n most) r (lt-ltb n most lt) ∙ ap Some same
 
 -- a number of the kind in its word
-wrapped_is : (k : Kind) (z : ℤ) → IsTrue (in_range k z) → on_some (half_of (width k)) (λ h. wrapped h z) ≡ Some (cast_unsigned (own_word k) z)
+wrapped_is : (k : Kind) (z : ℤ) → IsTrue (in_range k z)
+    → on_some (half_of (width k)) (λ h. wrapped h z) ≡ Some (cast_unsigned (own_word k) z)
 wrapped_is kind.Octet (pos n) h = let lt : n < 256 = ltb-true n 256 h in posit n (cast_unsigned w8 (pos n)) 256 lt (omega arith)
 wrapped_is kind.U8 (pos n) h = let lt : n < 256 = ltb-true n 256 h in posit n (cast_unsigned w8 (pos n)) 256 lt (omega arith)
 wrapped_is kind.Char (pos n) h = let lt : n < 256 = ltb-true n 256 h in posit n (cast_unsigned w8 (pos n)) 256 lt (omega arith)

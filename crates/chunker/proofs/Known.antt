@@ -8,7 +8,7 @@ use Rattle.cast_stub.specs.Steps.{is_width}
 use Rattle.chunker.specs.declared.phase.Phase.{Phase}
 use Rattle.chunker.specs.Left.{by_fours}
 use Rattle.chunker.specs.Phases.{IsPhase, AtPhase, unknown, modulo, shift, is_known, aligned, agree, meet}
-use Rattle.cast_stub.proofs.Widths.{Wide, one, two, four, eight, wide_is}
+use Rattle.cast_stub.proofs.Widths.{Wide, one, two, four, eight, wide_is, is_wide}
 
 rest_below : (m n : ℕ) → Wide m → n % m < m
 rest_below _ n one = omega arith

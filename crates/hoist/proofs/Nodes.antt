@@ -12,7 +12,7 @@ use Rattle.cast_stub.specs.Parts.{on_some}
 use Rattle.cast_stub.specs.Block.{Block, Piece, op_seen, code_seen, cases_seen}
 use Rattle.cast_stub.specs.PartTypes.{field_type, element_at, present_at, arms_at}
 use Rattle.cast_stub.proofs.Codes.{code-drop}
-use Rattle.cast_stub.proofs.Pieces.{pieces}
+use Rattle.cast_stub.proofs.Pieces.{pieces, seen-Switch}
 use Rattle.hoist.specs.Bound.{plus, greater, bound, cases_bound}
 
 abbrev pair : Ty → Count → Ty × Count

@@ -32,7 +32,8 @@ named_at (f ∷ fs) (suc i) h = named_at fs i (right_true (is_named f) (list_all
 parts_named : (fs : List Face) (names : List (List ℕ)) (ids : List ℕ) → list_all is_named fs ≡ true
     → are_parts_named (parts_at fs names ids) ≡ true
 parts_named fs names [] h = refl
-parts_named fs [] (i ∷ ids) h = and_from (is_named (at fs i)) (are_parts_named (parts_at fs [] ids)) (named_at fs i h) (parts_named fs [] ids h)
+parts_named fs [] (i ∷ ids) h =
+    and_from (is_named (at fs i)) (are_parts_named (parts_at fs [] ids)) (named_at fs i h) (parts_named fs [] ids h)
 parts_named fs (n ∷ names) (i ∷ ids) h =
     and_from (is_named (at fs i)) (are_parts_named (parts_at fs names ids)) (named_at fs i h) (parts_named fs names ids h)
 
@@ -42,7 +43,8 @@ other_named fs (Some i) h = named_at fs i h
 
 arms_named : (fs : List Face) (arms : List (ℤ × ℕ)) (o : Option ℕ) → list_all is_named fs ≡ true → are_arms_named (arms_at fs arms o) ≡ true
 arms_named fs [] o h = other_named fs o h
-arms_named fs (a ∷ arms) o h = and_from (is_named (at fs a.1)) (are_arms_named (arms_at fs arms o)) (named_at fs a.1 h) (arms_named fs arms o h)
+arms_named fs (a ∷ arms) o h =
+    and_from (is_named (at fs a.1)) (are_arms_named (arms_at fs arms o)) (named_at fs a.1 h) (arms_named fs arms o h)
 
 names-parts : (fs : List Face) (names : List (List ℕ)) (ids : List ℕ) → length names ≡ length ids → names_of (parts_at fs names ids) ≡ names
 names-parts fs [] [] h = refl

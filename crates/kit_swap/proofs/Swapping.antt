@@ -31,22 +31,26 @@ swapped-one w a is len =
     ap (swapped w) (sym (append-nil a)) ∙ swapped-first w a [] (swaps_some w is) len
     ∙ ap (λ z. reverse a ++ z) (swapped-none w is) ∙ append-nil (reverse a)
 
+-- how long the first run and the others are
+pub first_run : (w n : ℕ) (o : List ℕ) → length o ≡ suc n * w → (length (take w o) ≡ w) × (length (drop w o) ≡ n * w)
+first_run w n o len =
+    let long : w + n * w ≡ suc n * w = omega arith in
+    (omega (arith, length-take w o, long, len), omega (arith, length-drop w o, long, len))
+
 -- n runs, and others after them
 after : (w n : ℕ) (a o : List ℕ) → IsSwapWidth w → length a ≡ n * w → swapped w (a ++ o) ≡ swapped w a ++ swapped w o
 after w zero [] o is len = ap (λ z. z ++ swapped w o) (sym (swapped-none w is))
 after w zero (x ∷ a) o is len = absurd (omega arith)
 after w (suc n) a o is len =
-    let long : w + n * w ≡ suc n * w = omega arith in
     let f = take w a in
     let r = drop w a in
-    let front : length f ≡ w = omega (arith, length-take w a) in
-    let rest : length r ≡ n * w = omega (arith, length-drop w a) in
+    let s = first_run w n a len in
     let some = swaps_some w is in
     let whole : f ++ r ≡ a = take-append-drop w a in
-    ap (λ z. swapped w (z ++ o)) (sym whole) ∙ ap (swapped w) (append_assoc f r o) ∙ swapped-first w f (r ++ o) some front ∙ ap (λ z.
-    reverse f ++ z) (after w n r o is rest)
+    ap (λ z. swapped w (z ++ o)) (sym whole) ∙ ap (swapped w) (append_assoc f r o) ∙ swapped-first w f (r ++ o) some s.0 ∙ ap (λ z.
+    reverse f ++ z) (after w n r o is s.1)
     ∙ sym (append_assoc (reverse f) (swapped w r) (swapped w o))
-    ∙ ap (λ z. z ++ swapped w o) (sym (swapped-first w f r some front) ∙ ap (swapped w) whole)
+    ∙ ap (λ z. z ++ swapped w o) (sym (swapped-first w f r some s.0) ∙ ap (swapped w) whole)
 
 pub whole_runs : (w l : ℕ) → l % w ≡ 0 → l ≡ l / w * w
 whole_runs w l h = sym (omega (arith, div-add-mod' l w))
@@ -61,12 +65,11 @@ many w (suc n) o is len =
     let long : w + n * w ≡ suc n * w = omega arith in
     let f = take w o in
     let r = drop w o in
-    let front : length f ≡ w = omega (arith, length-take w o) in
-    let rest : length r ≡ n * w = omega (arith, length-drop w o) in
+    let s = first_run w n o len in
     ap (λ z.
-    length (swapped w z)) (sym (take-append-drop w o)) ∙ ap length (swapped-first w f r (swaps_some w is) front)
+    length (swapped w z)) (sym (take-append-drop w o)) ∙ ap length (swapped-first w f r (swaps_some w is) s.0)
     ∙ length-append (reverse f) (swapped w r)
-    ∙ omega (arith, length-reverse f, many w n r is rest)
+    ∙ omega (arith, length-reverse f, s.0, s.1, many w n r is s.1, long, len)
 
 pub length-swapped : (w : ℕ) (o : List ℕ) → IsSwapWidth w → length o % w ≡ 0 → length (swapped w o) ≡ length o
 length-swapped w o is whole = many w (length o / w) o is (whole_runs w (length o) whole)
@@ -75,16 +78,14 @@ twice : (w n : ℕ) (o : List ℕ) → IsSwapWidth w → length o ≡ n * w → 
 twice w zero [] is len = ap (swapped w) (swapped-none w is) ∙ swapped-none w is
 twice w zero (x ∷ o) is len = absurd (omega arith)
 twice w (suc n) o is len =
-    let long : w + n * w ≡ suc n * w = omega arith in
     let f = take w o in
     let r = drop w o in
-    let front : length f ≡ w = omega (arith, length-take w o) in
-    let rest : length r ≡ n * w = omega (arith, length-drop w o) in
+    let s = first_run w n o len in
     let some = swaps_some w is in
     ap (λ z.
-    swapped w (swapped w z)) (sym (take-append-drop w o)) ∙ ap (swapped w) (swapped-first w f r some front)
-    ∙ swapped-first w (reverse f) (swapped w r) some (length-reverse f ∙ front)
-    ∙ rw (reverse-reverse f, twice w n r is rest) (take-append-drop w o)
+    swapped w (swapped w z)) (sym (take-append-drop w o)) ∙ ap (swapped w) (swapped-first w f r some s.0)
+    ∙ swapped-first w (reverse f) (swapped w r) some (length-reverse f ∙ s.0)
+    ∙ rw (reverse-reverse f, twice w n r is s.1) (take-append-drop w o)
 
 -- a row that is swapped twice
 pub swapped-swapped : (w : ℕ) (o : List ℕ) → IsSwapWidth w → length o % w ≡ 0 → swapped w (swapped w o) ≡ o

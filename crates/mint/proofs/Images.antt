@@ -219,6 +219,21 @@ numbers-none kind.I64 = refl
 numbers-none kind.U64 = refl
 numbers-none kind.Bool = refl
 
+-- the numbers of whole words and of what follows them
+pub numbers-both : (k : Kind) (n : ℕ) (a o : List ℕ) → length a ≡ n * width k → numbers_of k (a ++ o) ≡ numbers_of k a ++ numbers_of k o
+numbers-both k zero [] o len = ap (λ z. z ++ numbers_of k o) (sym (numbers-none k))
+numbers-both k zero (x ∷ a) o len = absurd (omega arith)
+numbers-both k (suc n) a o len =
+    let w : ℕ = width k in
+    let long : w + n * w ≡ suc n * w = omega arith in
+    let f : List ℕ = take w a in
+    let r : List ℕ = drop w a in
+    let front : length f ≡ w = omega (arith, length-take w a, long) in
+    let rest : length r ≡ n * w = omega (arith, length-drop w a, long) in
+    ap (λ z. numbers_of k (z ++ o)) (sym (take-append-drop w a)) ∙ ap (numbers_of k) (append_assoc f r o) ∙ numbers-front k f (r ++ o) front
+    ∙ ap (λ z. number_in k f ∷ z) (numbers-both k n r o rest)
+    ∙ ap (λ z. z ++ numbers_of k o) (sym (numbers-front k f r front) ∙ ap (numbers_of k) (take-append-drop w a))
+
 -- numbers are read back from their image
 numbers-after : (k : Kind) (ns : List ℤ) (o : List ℕ) → IsTrue (list_all (in_range k) ns)
     → numbers_of k (image_of k ns ++ o) ≡ ns ++ numbers_of k o
@@ -236,13 +251,13 @@ numbers-image k ns h = ap (numbers_of k) (sym (append-nil (image_of k ns))) ∙ 
 
 -- ---- images of numbers
 
-octets_taken : (n : ℕ) (o : List ℕ) → AreOctets o → AreOctets (take n o)
+pub octets_taken : (n : ℕ) (o : List ℕ) → AreOctets o → AreOctets (take n o)
 octets_taken zero o oct i = omega arith
 octets_taken (suc n) [] oct i = omega arith
 octets_taken (suc n) (a ∷ o) oct zero = oct 0
 octets_taken (suc n) (a ∷ o) oct (suc i) = octets_taken n o (λ j. oct (suc j)) i
 
-octets_dropped : (n : ℕ) (o : List ℕ) → AreOctets o → AreOctets (drop n o)
+pub octets_dropped : (n : ℕ) (o : List ℕ) → AreOctets o → AreOctets (drop n o)
 octets_dropped zero o oct i = oct i
 octets_dropped (suc n) [] oct i = omega arith
 octets_dropped (suc n) (a ∷ o) oct i = octets_dropped n o (λ j. oct (suc j)) i

@@ -1,18 +1,18 @@
 -- The numbers of a row are sent as their image, swapped by pieces in the other order, by induction on the numbers.
-use Rattle.std.proofs.Common.{◌≡◌, ◌≢◌, ◌⊎◌, inl, inr, ℕ, zero, suc, ◌+◌, ◌-◌, ◌*◌, ◌/◌, ◌%◌, ◌<◌, ◌≤◌, ℤ, pos, negsuc, List, [], ◌∷◌, ◌++◌, length, take, drop, get_or, Bool, true, false, cond, ltb, nat_lt, refl, sym, ap, ◌∙◌, subst, zero-mul, add-zero, add_assoc, add-one, append-nil, append_assoc, arith, min, reverse, length-append, length-take, length-drop}
+use Rattle.std.proofs.Common.{◌≡◌, ◌⊎◌, inl, inr, ℕ, suc, ◌+◌, ◌-◌, ◌*◌, ◌/◌, ◌%◌, ◌≤◌, ℤ, pos, negsuc, List, [], ◌∷◌, ◌++◌, length, take, drop, Bool, refl, sym, ap, ◌∙◌, subst, zero-mul, append-nil, arith, min, reverse, length-append, length-take, length-drop}
 use Rattle.std.specs.Prelude.{IsTrue}
 use Rattle.std.specs.List.{list_all}
 use Rattle.std.specs.Int.{Width, w8, w16, w32, w64, byte_len, to_le_bytes, cast_unsigned}
 use Rattle.std.proofs.Math.Nat.{mod-eq_of_lt, mul-mod_left}
 use Rattle.std.proofs.lemmas.Bool.{cases_lt}
-use Rattle.std.proofs.lemmas.List.{drop-drop, drop-take, take-append-drop, take_at, drop_at, length-reverse, reverse-append}
+use Rattle.std.proofs.lemmas.List.{take-append-drop, take_at}
 use Rattle.std.proofs.lemmas.Nat.{div-add-mod'}
 use Rattle.mint.specs.declared.kind.Kind.{Kind}
 use Rattle.mint.specs.declared.kind.Kind.TheVariants as kind
 use Rattle.mint.specs.Kinds.{in_range, word, width}
 use Rattle.mint.specs.Row.{octets_of, image_of}
 use Rattle.mint.specs.Types.{number}
-use Rattle.mint.proofs.Images.{octets_many}
+use Rattle.mint.proofs.Images.{octets_many, some_octets}
 use Rattle.wire_def.specs.declared.encoding.Encoding.{Encoding}
 use Rattle.wire_def.specs.declared.encoding.Encoding.TheVariants.{Xdr, CdrBig, CdrLittle, Mach}
 use Rattle.wire_def.specs.Scalars.{width_of, number_octets, residue}
@@ -25,20 +25,6 @@ use Rattle.plain_wire.specs.Widths.{FitsWidth}
 use Rattle.plain_wire.specs.Rows.{bare_octets, numbers_octets, IsLittle, IsWay}
 use Rattle.plain_wire.specs.declared.widths.Way.TheVariants.{Copied, Swapped}
 use Rattle.plain_wire.proofs.Steps.{fits_width}
-
--- a number takes some octets
-pub wide : (k : Kind) → 0 < width k
-wide kind.Octet = omega arith
-wide kind.I8 = omega arith
-wide kind.U8 = omega arith
-wide kind.Char = omega arith
-wide kind.I16 = omega arith
-wide kind.U16 = omega arith
-wide kind.I32 = omega arith
-wide kind.U32 = omega arith
-wide kind.I64 = omega arith
-wide kind.U64 = omega arith
-wide kind.Bool = omega arith
 
 -- ---- sending
 
@@ -138,7 +124,7 @@ swapped_row : (e : Encoding) (k : Kind) (ns : List ℤ) → IsWay e k Swapped �
     → swapped (width k) (image_of k ns) ≡ numbers_octets e k ns
 swapped_row e k [] way h = swapped-none (width k) way.2
 swapped_row e k (n ∷ ns) way h =
-    swapped-first (width k) (octets_of k n) (image_of k ns) (wide k) (octets_many k n)
+    swapped-first (width k) (octets_of k n) (image_of k ns) (some_octets k) (octets_many k n)
     ∙ ap (λ z. z ++ swapped (width k) (image_of k ns)) (sym (bare_swapped e k n way (left_true (in_range k n) _ h))) ∙ ap (λ z.
     bare_octets e k n ++ z) (swapped_row e k ns way (right_true (in_range k n) _ h))
 

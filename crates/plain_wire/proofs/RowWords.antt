@@ -1,18 +1,17 @@
 -- The numbers of a row are read as their image, or cut at the first that is not there, by induction on their number.
-use Rattle.std.proofs.Common.{◌≡◌, ◌≢◌, ◌⊎◌, inl, inr, ℕ, zero, suc, ◌+◌, ◌-◌, ◌*◌, ◌/◌, ◌%◌, ◌<◌, ◌≤◌, ℤ, pos, negsuc, List, [], ◌∷◌, ◌++◌, length, take, drop, Bool, true, false, cond, ltb, nat_lt, refl, sym, ap, ◌∙◌, subst, zero-mul, add-zero, add-one, append_assoc, arith, reverse, length-append, length-take, length-drop}
+use Rattle.std.proofs.Common.{◌≡◌, ◌≢◌, ◌⊎◌, inl, inr, ℕ, zero, suc, ◌+◌, ◌-◌, ◌*◌, ◌/◌, ◌%◌, ◌<◌, ◌≤◌, ℤ, List, [], ◌∷◌, ◌++◌, length, take, drop, Bool, true, false, cond, ltb, nat_lt, refl, sym, ap, ◌∙◌, subst, zero-mul, add-zero, add-one, arith, reverse, length-take, length-drop}
 use Rattle.std.specs.Prelude.{if◌then◌else◌, IsTrue}
 use Rattle.std.specs.List.{AllByRecursion}
 use Rattle.std.specs.Int.{Width, w8, byte_len, from_le_bytes, from_be_bytes}
 use Rattle.std.proofs.Math.Nat.{add-div_left, div-eq_of_lt, mul-div_cancel, mul-mod_left, le-div_iff_mul-le}
 use Rattle.std.proofs.lemmas.Bool.{cases_lt, lt-ltb, le-ltb, ltb-false}
-use Rattle.std.proofs.lemmas.List.{drop-drop, drop-take, take-append-drop, take_at, drop_at, length-reverse, reverse-append}
-use Rattle.std.proofs.Math.Seq.{take-add}
+use Rattle.std.proofs.lemmas.List.{drop-drop, take-append-drop, take_at, drop_at, length-reverse, reverse-append}
 use Rattle.mint.specs.declared.kind.Kind.{Kind}
 use Rattle.mint.specs.declared.kind.Kind.TheVariants as kind
 use Rattle.mint.specs.Kinds.{in_range, word, width}
 use Rattle.mint.specs.Row.{Numbers, number_from, number_in, numbers_in, numbers_of}
 use Rattle.mint.specs.Types.{number}
-use Rattle.mint.proofs.Images.{AreOctets, octet_at, number_ranged, numbers-none}
+use Rattle.mint.proofs.Images.{AreOctets, octet_at, number_ranged, octets_taken, octets_dropped, numbers-both, some_octets}
 use Rattle.wire_def.specs.declared.encoding.Encoding.{Encoding}
 use Rattle.wire_def.specs.declared.encoding.Encoding.TheVariants.{Xdr, CdrBig, CdrLittle, Mach}
 use Rattle.wire_def.specs.declared.fault.FaultKind.{FaultKind}
@@ -20,35 +19,20 @@ use Rattle.wire_def.specs.declared.fault.FaultKind.TheVariants.{Short, BadValue}
 use Rattle.wire_def.specs.Grammar.{Reader, got, stop, then_on, map_got, times}
 use Rattle.wire_def.specs.Scalars.{is_signed, width_of, octets_number, number_of}
 use Rattle.kit_swap.specs.Swapped.{swapped, IsSwapWidth}
-use Rattle.kit_swap.proofs.Swapping.{swapped-first, length-swapped}
+use Rattle.kit_swap.proofs.Swapping.{swapped-first, length-swapped, first_run}
 use Rattle.plain_wire.specs.Readers.{read_here}
 use Rattle.plain_wire.specs.Rows.{IsLittle, InImage, IsWay, arranged}
 use Rattle.plain_wire.specs.declared.widths.Way.{Way}
 use Rattle.plain_wire.specs.declared.widths.Way.TheVariants.{Copied, Swapped, Single}
 use Rattle.plain_wire.proofs.Words.{word_here}
-use Rattle.plain_wire.proofs.RowImages.{wide, IsMany, two, four, eight, many, whole_words, swapped_piece}
+use Rattle.plain_wire.proofs.RowImages.{IsMany, two, four, eight, many, whole_words, swapped_piece}
+use Rattle.wire_def.proofs.RowWords.{word_number, words_read, words_first}
 
 -- ---- words as they are read
-
--- the numbers of so many words
-abbrev words_read : (List ℕ → ℤ) → ℕ → ℕ → List ℕ → List ℤ
-words_read value w zero o = []
-words_read value w (suc n) o = value (take w o) ∷ words_read value w n (drop w o)
 
 pub each_octet : (o : List ℕ) → AreOctets o → AllByRecursion (λ b. b < 256) o
 each_octet [] h = tt
 each_octet (b ∷ o) h = (h 0, each_octet o (λ i. h (suc i)))
-
-taken : (n : ℕ) (o : List ℕ) → AreOctets o → AreOctets (take n o)
-taken zero o oct i = omega arith
-taken (suc n) [] oct i = omega arith
-taken (suc n) (a ∷ o) oct zero = oct 0
-taken (suc n) (a ∷ o) oct (suc i) = taken n o (λ j. oct (suc j)) i
-
-dropped : (n : ℕ) (o : List ℕ) → AreOctets o → AreOctets (drop n o)
-dropped zero o oct i = oct i
-dropped (suc n) [] oct i = omega arith
-dropped (suc n) (a ∷ o) oct i = dropped n o (λ j. oct (suc j)) i
 
 -- words that all are numbers: read as one block, or cut at the first that is not there
 module _ (r : Reader FaultKind ℤ) (value : List ℕ → ℤ) (w : ℕ) (some : 0 < w)
@@ -64,7 +48,7 @@ module _ (r : Reader FaultKind ℤ) (value : List ℕ → ℤ) (w : ℕ) (some :
         let rest : n * w ≤ length (drop w o) = omega (arith, long, length-drop w o) in
         let place : p + w + n * w ≡ p + suc n * w = omega (arith, long) in
         let after : drop (n * w) (drop w o) ≡ drop (suc n * w) o = drop-drop (n * w) w o ∙ ap (λ z. drop z o) long in
-        rw (step p o oct, there, words_there n (p + w) (drop w o) (dropped w o oct) rest) (rw (place, after) refl)
+        rw (step p o oct, there, words_there n (p + w) (drop w o) (octets_dropped w o oct) rest) (rw (place, after) refl)
 
     words_cut : (n p : ℕ) (o : List ℕ) → AreOctets o → length o / w < n → times r n p o ≡ stop Short (p + length o / w * w)
     words_cut zero p o oct h = absurd (omega arith)
@@ -76,7 +60,7 @@ module _ (r : Reader FaultKind ℤ) (value : List ℕ → ℤ) (w : ℕ) (some :
           let split : length o ≡ w + length (drop w o) = omega (arith, length-drop w o) in
           let more : length o / w ≡ suc (length (drop w o) / w) =
           ap (λ z. z / w) split ∙ add-div_left (length (drop w o)) some ∙ add-one (length (drop w o) / w) in
-          let rest = words_cut n (p + w) (drop w o) (dropped w o oct) (omega (arith, more)) in
+          let rest = words_cut n (p + w) (drop w o) (octets_dropped w o oct) (omega (arith, more)) in
           let m : ℕ = length (drop w o) / w in
           let long : w + m * w ≡ suc m * w = omega arith in
           let place : p + w + m * w ≡ p + suc m * w = omega (arith, long) in
@@ -84,23 +68,6 @@ module _ (r : Reader FaultKind ℤ) (value : List ℕ → ℤ) (w : ℕ) (some :
     ]
 
 -- ---- the words of kinds
-
-signed_word : (b : Bool) (m f : ℕ) → cond b (pos m) (negsuc (f - 1 - m)) ≡ cond b (pos m) (negsuc (f - suc m))
-signed_word true m f = refl
-signed_word false m f = ap negsuc (omega arith)
-
-word_number : (k : Kind) (m : ℕ) → number_of (is_signed (number k)) (word k) m ≡ number_from k m
-word_number kind.Octet m = refl
-word_number kind.U8 m = refl
-word_number kind.Char m = refl
-word_number kind.Bool m = refl
-word_number kind.U16 m = refl
-word_number kind.U32 m = refl
-word_number kind.U64 m = refl
-word_number kind.I8 m = signed_word (ltb m 128) m 256
-word_number kind.I16 m = signed_word (ltb m 32768) m 65536
-word_number kind.I32 m = signed_word (ltb m 2147483648) m 4294967296
-word_number kind.I64 m = signed_word (ltb m 9223372036854775808) m 18446744073709551616
 
 narrow_number : (e : Encoding) (o : List ℕ) → octets_number e w8 o ≡ from_le_bytes w8 o
 narrow_number Xdr o = refl
@@ -191,7 +158,7 @@ here_word e k value same is ranged p o oct =
       by true cut = refl
       by false there =
           let long : length x ≡ width k = omega (arith, length-take (width k) o, ltb-false _ _ there) in
-          rw (word_number k (octets_number e (word k) x), is x long, ranged x (taken (width k) o oct)) refl
+          rw (word_number k (octets_number e (word k) x), is x long, ranged x (octets_taken (width k) o oct)) refl
 
 copied_words : (k : Kind) (n : ℕ) (o : List ℕ) → words_read (number_in k) (width k) n o ≡ numbers_in k n o
 unfolding numbers_in
@@ -204,42 +171,30 @@ unfolding numbers_in
 swapped_words k is zero o len = refl
 swapped_words k is (suc n) o len =
     let w : ℕ = width k in
-    let long : w + n * w ≡ suc n * w = omega arith in
     let f : List ℕ = take w o in
     let r : List ℕ = drop w o in
-    let front : length f ≡ w = omega (arith, length-take w o, long) in
-    let rest : length r ≡ n * w = omega (arith, length-drop w o, long) in
-    let turn : length (reverse f) ≡ w = length-reverse f ∙ front in
-    let split : swapped w o ≡ reverse f ++ swapped w r = ap (swapped w) (sym (take-append-drop w o)) ∙ swapped-first w f r (wide k) front in
-    rw (split, take_at (reverse f) (swapped w r) w turn, drop_at (reverse f) (swapped w r) w turn, swapped_words k is n r rest) refl
-
--- the numbers of an image are those of its first words
-words_first : (value : List ℕ → ℤ) (w n : ℕ) (o : List ℕ) → n * w ≤ length o
-    → words_read value w n (take (n * w) o) ≡ words_read value w n o
-words_first value w zero o h = refl
-words_first value w (suc n) o h =
-    let long : suc n * w ≡ w + n * w = omega arith in
-    let front : take w (take (w + n * w) o)
-    ≡ take w o = rw take-add (take_at (take w o) (take (n * w) (drop w o)) w (omega (arith, length-take w o, long))) in
-    let rest : n * w ≤ length (drop w o) = omega (arith, long, length-drop w o) in
-    rw (long, front, drop-take w (n * w) o, words_first value w n (drop w o) rest) refl
+    let s = first_run w n o len in
+    let turn : length (reverse f) ≡ w = length-reverse f ∙ s.0 in
+    let split : swapped w o ≡ reverse f ++ swapped w r =
+    ap (swapped w) (sym (take-append-drop w o)) ∙ swapped-first w f r (some_octets k) s.0 in
+    rw (split, take_at (reverse f) (swapped w r) w turn, drop_at (reverse f) (swapped w r) w turn, swapped_words k is n r s.1) refl
 
 first_long : (w n : ℕ) (o : List ℕ) → n * w ≤ length o → length (take (n * w) o) ≡ n * w
 first_long w n o h = omega (arith, length-take (n * w) o)
 
 pub within : (k : Kind) (n l : ℕ) → n ≤ l / width k → n * width k ≤ l
-within k n l h = (le-div_iff_mul-le (wide k)).0 h
+within k n l h = (le-div_iff_mul-le (some_octets k)).0 h
 
 -- the numbers of octets that travel
 way_words : (e : Encoding) (k : Kind) (way : Way) → IsWay e k way → way ≢ Single → (n : ℕ) (o : List ℕ) → length o ≡ n * width k
     → words_read (word_value way k) (width k) n o ≡ numbers_of k (arranged way (width k) o)
 unfolding numbers_of
 way_words e k Copied way block n o len = copied_words k n o
-    ∙ ap (λ m. numbers_in k m o) (sym (ap (λ z. z / width k) len ∙ mul-div_cancel n (wide k)))
+    ∙ ap (λ m. numbers_in k m o) (sym (ap (λ z. z / width k) len ∙ mul-div_cancel n (some_octets k)))
 way_words e k Swapped way block n o len =
     let whole : length o % width k ≡ 0 = ap (λ z. z % width k) len ∙ mul-mod_left n (width k) in
     let same : length (swapped (width k) o) / width k
-    ≡ n = ap (λ z. z / width k) (length-swapped (width k) o way.2 whole ∙ len) ∙ mul-div_cancel n (wide k) in
+    ≡ n = ap (λ z. z / width k) (length-swapped (width k) o way.2 whole ∙ len) ∙ mul-div_cancel n (some_octets k) in
     swapped_words k way.2 n o len ∙ ap (λ m. numbers_in k m (swapped (width k) o)) (sym same)
 way_words e k Single way block n o len = absurd (block refl)
 
@@ -258,38 +213,16 @@ module _ (e : Encoding) (k : Kind) (way : Way) (is : IsWay e k way) (block : way
       let value : words_read (word_value way k) (width k) n o ≡ numbers_of k (arranged way (width k) (take (n * width k) o)) =
       sym (words_first (word_value way k) (width k) n o fits)
       ∙ way_words e k way is block n (take (n * width k) o) (first_long (width k) n o fits) in
-      words_there (read_here e (number k)) (word_value way k) (width k) (wide k) step n p o oct fits
+      words_there (read_here e (number k)) (word_value way k) (width k) (some_octets k) step n p o oct fits
       ∙ ap (λ z. got z (p + n * width k) (drop (n * width k) o)) value
 
   pub image_cut : length o / width k < n → times (read_here e (number k)) n p o ≡ stop Short (p + length o / width k * width k)
-  image_cut h = words_cut (read_here e (number k)) (word_value way k) (width k) (wide k) step n p o oct h
+  image_cut h = words_cut (read_here e (number k)) (word_value way k) (width k) (some_octets k) step n p o oct h
 
 pub image_whole : (k : Kind) (n : ℕ) (o : List ℕ) → n ≤ length o / width k → length (take (n * width k) o) % width k ≡ 0
 image_whole k n o h = rw (first_long (width k) n o (within k n (length o) h)) (mul-mod_left n (width k))
 
 pub ruleset images = (image_there, image_cut, image_whole, within)
-
-numbers_first : (k : Kind) (a o : List ℕ) → length a ≡ width k → numbers_of k (a ++ o) ≡ number_in k a ∷ numbers_of k o
-unfolding numbers_of numbers_in
-numbers_first k a o len =
-    let more : length (a ++ o) / width k ≡ suc (length o / width k) =
-    ap (λ z.
-    z / width k) (length-append a o ∙ ap (λ z. z + length o) len) ∙ add-div_left (length o) (wide k) ∙ add-one (length o / width k) in
-    rw (more, take_at a o (width k) len, drop_at a o (width k) len) refl
-
-numbers_both : (k : Kind) (n : ℕ) (a b : List ℕ) → length a ≡ n * width k → numbers_of k (a ++ b) ≡ numbers_of k a ++ numbers_of k b
-numbers_both k zero [] b len = ap (λ z. z ++ numbers_of k b) (sym (numbers-none k))
-numbers_both k zero (x ∷ a) b len = absurd (omega arith)
-numbers_both k (suc n) a b len =
-    let w : ℕ = width k in
-    let long : w + n * w ≡ suc n * w = omega arith in
-    let f : List ℕ = take w a in
-    let r : List ℕ = drop w a in
-    let front : length f ≡ w = omega (arith, length-take w a, long) in
-    let rest : length r ≡ n * w = omega (arith, length-drop w a, long) in
-    ap (λ z. numbers_of k (z ++ b)) (sym (take-append-drop w a)) ∙ ap (numbers_of k) (append_assoc f r b) ∙ numbers_first k f (r ++ b) front
-    ∙ ap (λ z. number_in k f ∷ z) (numbers_both k n r b rest) ∙ ap (λ z.
-    z ++ numbers_of k b) (sym (numbers_first k f r front) ∙ ap (numbers_of k) (take-append-drop w a))
 
 -- the numbers of a swapped piece and of the rest
 pub numbers_piece : (k : Kind) (n : ℕ) (o : List ℕ) → IsSwapWidth (width k) → n % width k ≡ 0 → n ≤ length o
@@ -299,7 +232,7 @@ numbers_piece k n o is whole h =
     let even : length (take n o) % width k ≡ 0 = rw long whole in
     let same : length (swapped (width k) (take n o)) ≡ n = length-swapped (width k) (take n o) is even ∙ long in
     ap (numbers_of k) (swapped_piece (width k) n o is whole h)
-    ∙ numbers_both k (n / width k) (swapped (width k) (take n o)) (swapped (width k) (drop n o))
+    ∙ numbers-both k (n / width k) (swapped (width k) (take n o)) (swapped (width k) (drop n o))
     (same ∙ whole_words (width k) n whole)
 
 pub same_row : (r : Numbers) (k : Kind) (ns : List ℤ) → r.kind ≡ k → r.numbers ≡ ns → r ≡ record { kind = k; numbers = ns }

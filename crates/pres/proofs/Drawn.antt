@@ -162,7 +162,8 @@ pub arm_drawable : (n : ℕ) (arms : List Pair) (o : Option aoi.Shape) (k : ℕ)
     → IsTrue (is_drawable n (aoi.seen a.1))
 arm_drawable n [] o k a h lt is = absurd (omega arith)
 arm_drawable n (b ∷ arms) o zero a h lt is = rw is ((and_parts _ _ h).0)
-arm_drawable n (b ∷ arms) o (suc k) a h lt is = arm_drawable n arms o k a ((and_parts (is_drawable n (aoi.seen b.1)) _ h).1) (omega arith) is
+arm_drawable n (b ∷ arms) o (suc k) a h lt is =
+    arm_drawable n arms o k a ((and_parts (is_drawable n (aoi.seen b.1)) _ h).1) (omega arith) is
 
 pub other_drawable : (n : ℕ) (arms : List Pair) (o : Option aoi.Shape) → IsTrue (arms_drawable n (aoi.arms_seen arms o))
     → IsTrue (arms_drawable n (aoi.default_of o))

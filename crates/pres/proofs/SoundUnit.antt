@@ -29,7 +29,8 @@ mutual
   drawable ss l aoi.void h = refl
   drawable ss l (aoi.number k) h = refl
   drawable ss l (aoi.enumeration items) h =
-      (and_parts (not (length items == 0) && nat_le (count_different (map (λ i. i.1) items)) 4096) (are_distinct (map (λ i. i.0) items)) h).1
+      (and_parts (not (length items == 0) && nat_le (count_different (map (λ i. i.1) items)) 4096)
+      (are_distinct (map (λ i. i.0) items)) h).1
   drawable ss l (aoi.text c) h = refl
   drawable ss l (aoi.array s c) h = drawable ss l s ((and_parts (is_some_count c) (is_sound_type ss l s) h).1)
   drawable ss l (aoi.structure ms) h =

@@ -83,7 +83,8 @@ all_of (aoi.number k) (n ∷ ns) t l h = let p = and_parts (in_range k n) _ h in
 all_of (aoi.enumeration items) (n ∷ ns) t l h =
     let p = and_parts (list_any (λ i. int_eq i.1 n) items) _ h in
     let there : list_any (λ m. int_eq m n) (labels_of items) ≡ true = labels_there items n p.0 in
-    let range : in_range kind.I32 n ≡ true = ranged_in (labels_of items) n ((and_parts (list_all (in_range kind.I32) (labels_of items)) _ l).0)
+    let range : in_range kind.I32 n ≡ true =
+    ranged_in (labels_of items) n ((and_parts (list_all (in_range kind.I32) (labels_of items)) _ l).0)
     there in
     rw (range, there, all_of (aoi.enumeration items) ns t l p.1) refl
 all_of aoi.void (n ∷ ns) t l h = absurd (true≢false (sym t))

@@ -1,13 +1,13 @@
 -- The images of rows, as they are and with each number's octets reversed, by induction on how many numbers there are.
-use Rattle.std.proofs.Common.{◌≡◌, ◌≢◌, ◌≤◌, inl, inr, ℕ, zero, suc, ◌+◌, ◌-◌, ◌*◌, ◌/◌, ◌%◌, ℤ, min, List, [], ◌∷◌, ◌++◌, length, take, drop, reverse, sym, ap, refl, ◌∙◌, arith, add-one, append_assoc, length-append, length-take, length-drop}
-use Rattle.std.proofs.Math.Nat.{mul-mod_left, add-div_left}
+use Rattle.std.proofs.Common.{◌≡◌, ◌≢◌, ◌≤◌, inl, inr, ℕ, suc, ◌+◌, ◌-◌, ◌*◌, ◌/◌, ◌%◌, ℤ, min, List, [], ◌∷◌, ◌++◌, length, take, drop, reverse, sym, ap, refl, ◌∙◌, arith, length-append, length-take, length-drop}
+use Rattle.std.proofs.Math.Nat.{mul-mod_left}
 use Rattle.std.proofs.Math.Seq.{take-add}
-use Rattle.std.proofs.lemmas.List.{take_at, drop_at, take_all, take-append-drop, length-take-le}
+use Rattle.std.proofs.lemmas.List.{take_at, drop_at, take_all, length-take-le}
 use Rattle.mint.specs.declared.kind.Kind.{Kind}
 use Rattle.mint.specs.declared.kind.Kind.TheVariants as kind
 use Rattle.mint.specs.Kinds.{width}
-use Rattle.mint.specs.Row.{Numbers, octets_of, number_in, image_of, numbers_in, numbers_of}
-use Rattle.mint.proofs.Images.{octets_many, numbers-none, some_octets}
+use Rattle.mint.specs.Row.{Numbers, octets_of, image_of, numbers_of}
+use Rattle.mint.proofs.Images.{octets_many, numbers-none, numbers-both}
 use Rattle.kit_swap.specs.Swapped.{swapped, IsSwapWidth}
 use Rattle.kit_swap.proofs.Swapping.{at_width, swapped-first, swapped-none, swapped-append, length-swapped, swaps_some, whole_runs, swapped-octets}
 
@@ -59,33 +59,8 @@ pub single_octets : (k : Kind) (o : List ℕ) → width k ≡ 1 → swapped (wid
 single_octets k o is = ap (λ (w : ℕ). swapped w o) is ∙ swapped-octets o
 
 -- the number of the first octets, and the numbers of those that follow
-first_number : (k : Kind) (a o : List ℕ) → length a ≡ width k → numbers_of k (a ++ o) ≡ number_in k a ∷ numbers_of k o
-unfolding numbers_of numbers_in
-first_number k a o len =
-    let many : length (a ++ o) / width k ≡ suc (length o / width k) =
-    ap (λ (z : ℕ).
-    z / width k)
-    (length-append a o ∙ ap (λ (z : ℕ). z + length o) len) ∙ add-div_left (length o) (some_octets k) ∙ add-one (length o / width k) in
-    rw (many, take_at a o (width k) len, drop_at a o (width k) len) refl
-
-joined : (k : Kind) (n : ℕ) (a o : List ℕ) → length a ≡ n * width k → numbers_of k (a ++ o) ≡ numbers_of k a ++ numbers_of k o
-joined k zero [] o len = ap (λ (z : List ℤ). z ++ numbers_of k o) (sym (numbers-none k))
-joined k zero (x ∷ a) o len = absurd (omega arith)
-joined k (suc n) a o len =
-    let w : ℕ = width k in
-    let f = take w a in
-    let r = drop w a in
-    let long : w + n * w ≡ suc n * w = omega arith in
-    let front : length f ≡ w = omega (arith, length-take w a) in
-    let rest : length r ≡ n * w = omega (arith, length-drop w a) in
-    let whole : f ++ r ≡ a = take-append-drop w a in
-    ap (λ (z : List ℕ).
-    numbers_of k (z ++ o)) (sym whole) ∙ ap (numbers_of k) (append_assoc f r o) ∙ first_number k f (r ++ o) front
-    ∙ ap (λ (z : List ℤ). number_in k f ∷ z) (joined k n r o rest)
-    ∙ ap (λ (z : List ℤ). z ++ numbers_of k o) (sym (first_number k f r front) ∙ ap (numbers_of k) whole)
-
 pub numbers-joined : (k : Kind) (a o : List ℕ) → length a % width k ≡ 0 → numbers_of k (a ++ o) ≡ numbers_of k a ++ numbers_of k o
-numbers-joined k a o whole = joined k (length a / width k) a o (whole_runs (width k) (length a) whole)
+numbers-joined k a o whole = numbers-both k (length a / width k) a o (whole_runs (width k) (length a) whole)
 
 -- ---- a row that is turned block by block
 

@@ -1,6 +1,5 @@
 -- A value that was received is what the message has, and nothing else.
-use Rattle.std.proofs.Common.{◌≡◌, ◌↔◌, ℕ, ◌+◌, List, ◌++◌, length, take, drop, sym, subst, ◌∙◌, arith}
-use Rattle.std.proofs.lemmas.List.{take-append-drop, length-take}
+use Rattle.std.proofs.Common.{◌≡◌, ◌↔◌, ℕ, ◌+◌, List, sym, subst, ◌∙◌, arith}
 use Rattle.mint.specs.Types.{Ty}
 use Rattle.mint.specs.Values.{Val}
 use Rattle.wire_def.specs.declared.encoding.Encoding.{Encoding}
@@ -10,30 +9,21 @@ use Rattle.wire_def.specs.Laws.{BeginsWith}
 use Rattle.wire_def.specs.Reading.{read}
 use Rattle.wire_def.specs.Stops.{Stops}
 use Rattle.wire_def.proofs.Encodings.{grammar}
+use Rattle.wire_def.proofs.Begins.{reads, same_got}
 
 module _ (e : Encoding) (t : Ty) (p : ℕ) (o : List ℕ) where
-  reads : (v : Val) (used : ℕ) → BeginsWith e t p o v used → read e t p o ≡ got v (p + used) (drop used o)
-  reads v used h =
-      let long : length (take used o) ≡ used = omega (arith, length-take used o, h.there) in
-      let whole : take used o ++ drop used o ≡ o = take-append-drop used o in
-      let there = (grammar e t).reads p (take used o) (drop used o) v h.spelled.octets in
-      rw (whole, long) at there
-
-  same_got : (v w : Val) (q r : ℕ) (a b : List ℕ) (x : Reading FaultKind Val) → x ≡ got v q a → x ≡ got w r b → (v ≡ w) × (q ≡ r)
-  same_got v w q r a b x first second = let same = sym first ∙ second in (cc, cc)
-
   never_both : (v : Val) (q : ℕ) (a : List ℕ) (k : FaultKind) (at : ℕ) (x : Reading FaultKind Val) → x ≡ got v q a → x ≡ stop k at → ⊥
   never_both v q a k at x first second = let same = sym first ∙ second in cc
 
   -- at most one value begins octets, in so many of them
   pub first_same : (v w : Val) (m n : ℕ) → BeginsWith e t p o v m → BeginsWith e t p o w n → (v ≡ w) × (m ≡ n)
   first_same v w m n h j =
-      let same = same_got v w (p + m) (p + n) _ _ (read e t p o) (reads v m h) (reads w n j) in
+      let same = same_got v w (p + m) (p + n) _ _ (read e t p o) (reads e t p o v m h) (reads e t p o w n j) in
       (same.0, omega (arith, same.1))
 
   -- and then there is no fault
   pub no_fault : (v : Val) (m : ℕ) (k : FaultKind) (at : ℕ) → BeginsWith e t p o v m → Stops e t p o k at → ⊥
-  no_fault v m k at h s = never_both v (p + m) _ k at (read e t p o) (reads v m h) ((grammar e t).stops p o k at s)
+  no_fault v m k at h s = never_both v (p + m) _ k at (read e t p o) (reads e t p o v m h) ((grammar e t).stops p o k at s)
 
   -- a value of so many octets that was found
   pub value_is : (w : Val) (n : ℕ) → BeginsWith e t p o w n → (v : Val) (used : ℕ) → ((w ≡ v) × (n ≡ used)) ↔ BeginsWith e t p o v used

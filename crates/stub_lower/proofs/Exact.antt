@@ -1,6 +1,6 @@
 -- A run that gives what the reader gives is exact.
-use Rattle.std.proofs.Common.{◌≡◌, ℕ, ◌+◌, ◌≤◌, List, ◌++◌, length, take, drop, sym, ap, ◌∙◌, arith, length-append}
-use Rattle.std.proofs.lemmas.List.{take_at, take-append-drop, length-take}
+use Rattle.std.proofs.Common.{◌≡◌, ℕ, ◌+◌, ◌≤◌, List, length, take, drop, sym, ap, ◌∙◌, arith, length-append}
+use Rattle.std.proofs.lemmas.List.{take_at}
 use Rattle.std.proofs.Math.Seq.{drop-append_seam}
 use Rattle.mint.specs.Types.{Ty}
 use Rattle.mint.specs.Sound.{IsSound}
@@ -16,17 +16,11 @@ use Rattle.cast_stub.specs.Runs.{Run, gives, refuses, strays}
 use Rattle.wire_def.specs.Laws.{BeginsWith}
 use Rattle.cast_stub.specs.Got.{IsExact}
 use Rattle.stub_lower.proofs.Agreeing.{Agrees, Same}
+use Rattle.wire_def.proofs.Begins.{reads}
 
 module _ (e : Encoding) (t : Ty) (sound : IsSound t) (p : ℕ) (o : List ℕ) (oct : AreOctets o) (short : p + length o ≤ 4194304) where
-  reads : (v : Val) (used : ℕ) → BeginsWith e t p o v used → read e t p o ≡ got v (p + used) (drop used o)
-  reads v used h =
-      let long : length (take used o) ≡ used = omega (arith, length-take used o, h.there) in
-      let whole : take used o ++ drop used o ≡ o = take-append-drop used o in
-      let there = (grammar e t).reads p (take used o) (drop used o) v h.spelled.octets in
-      rw (whole, long) at there
-
   stop_no_value : (k : FaultKind) (at : ℕ) → read e t p o ≡ stop k at → (v : Val) (used : ℕ) → BeginsWith e t p o v used → ⊥
-  stop_no_value k at is v used h = let f = reads v used h in cc
+  stop_no_value k at is v used h = let f = reads e t p o v used h in cc
 
   pub exact : (K : ℕ → Type 0) (x : Run Val) (r : Reading FaultKind Val) → read e t p o ≡ r → Agrees K Same x r → IsExact e t p o x
   exact K refuses (stop k at) is h = stop_no_value k at is

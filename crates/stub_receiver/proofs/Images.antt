@@ -1,22 +1,21 @@
 -- The numbers of a row are those of its image, by induction on how many numbers there are.
-use Rattle.std.proofs.Common.{◌≡◌, ℕ, zero, suc, ◌+◌, ◌-◌, ◌*◌, ◌/◌, ◌≤◌, ℤ, pos, negsuc, List, [], ◌∷◌, ◌++◌, length, take, drop, reverse, Bool, true, false, cond, ltb, Option, None, Some, option_map, refl, sym, ap, ◌∙◌, inl, inr, arith, length-take, length-drop, length-append}
+use Rattle.std.proofs.Common.{◌≡◌, ℕ, zero, suc, ◌+◌, ◌-◌, ◌*◌, ◌/◌, ◌≤◌, ℤ, pos, List, [], ◌∷◌, ◌++◌, length, take, drop, reverse, Bool, true, false, Option, None, Some, option_map, refl, sym, ap, ◌∙◌, inl, inr, arith, length-take, length-append}
 use Rattle.std.specs.Prelude.{if◌then◌else◌, ◌&&◌}
 use Rattle.std.specs.List.{list_all}
 use Rattle.std.specs.Int.{Width, w8, w16, w32, w64, from_le_bytes, from_be_bytes}
 use Rattle.std.proofs.Math.Nat.{mul-div_cancel, zero-div}
-use Rattle.std.proofs.Math.Seq.{take-add}
-use Rattle.std.proofs.lemmas.List.{drop-take, take-append-drop, take_at, drop_at, length-reverse}
+use Rattle.std.proofs.lemmas.List.{take-append-drop, take_at, drop_at, length-reverse}
 use Rattle.mint.specs.declared.kind.Kind.{Kind}
 use Rattle.mint.specs.declared.kind.Kind.TheVariants as kind
 use Rattle.mint.specs.Kinds.{word, width}
-use Rattle.mint.specs.Row.{Numbers, number_from, number_in, numbers_in, numbers_of}
+use Rattle.mint.specs.Row.{Numbers, number_in, numbers_in, numbers_of}
 use Rattle.mint.specs.Types.{Array, number}
 use Rattle.wire_def.specs.declared.head.Order.{Order}
 use Rattle.wire_def.specs.declared.head.Order.TheVariants.{Big, Little}
 use Rattle.wire_def.specs.Scalars.{is_signed, number_of}
 use Rattle.wire_def.specs.Arrays.{kind_of}
 use Rattle.kit_swap.specs.Swapped.{swapped}
-use Rattle.kit_swap.proofs.Swapping.{swapped-first}
+use Rattle.kit_swap.proofs.Swapping.{swapped-first, first_run}
 use Rattle.wire_def.specs.Orders.{IsWidth, width_as, loaded}
 use Rattle.raw_buf.specs.View.{in_little}
 use Rattle.mint.specs.declared.node.Node.{Node}
@@ -27,25 +26,9 @@ use Rattle.stub_receiver.specs.declared.draft.Filling.TheVariants as filling
 use Rattle.stub_receiver.specs.Drawn.{drawn}
 use Rattle.stub_receiver.proofs.Blocking.{block_near, block_gives, block_refuses}
 use Rattle.mint.proofs.Images.{some_octets}
+use Rattle.wire_def.proofs.RowWords.{word_number, words_read, words_first}
 
 -- ---- words
-
-signed_word : (b : Bool) (m f : ℕ) → cond b (pos m) (negsuc (f - 1 - m)) ≡ cond b (pos m) (negsuc (f - suc m))
-signed_word true m f = refl
-signed_word false m f = ap negsuc (omega arith)
-
-word_number : (k : Kind) (m : ℕ) → number_of (is_signed (number k)) (word k) m ≡ number_from k m
-word_number kind.Octet m = refl
-word_number kind.U8 m = refl
-word_number kind.Char m = refl
-word_number kind.Bool m = refl
-word_number kind.U16 m = refl
-word_number kind.U32 m = refl
-word_number kind.U64 m = refl
-word_number kind.I8 m = signed_word (ltb m 128) m 256
-word_number kind.I16 m = signed_word (ltb m 32768) m 65536
-word_number kind.I32 m = signed_word (ltb m 2147483648) m 4294967296
-word_number kind.I64 m = signed_word (ltb m 9223372036854775808) m 18446744073709551616
 
 turned_1 : (o : List ℕ) → length o ≡ 1 → from_be_bytes w8 o ≡ from_le_bytes w8 (reverse o)
 turned_1 (a ∷ []) len = omega arith
@@ -104,21 +87,6 @@ is_width kind.U64 = inr (inr (inr refl))
 
 -- ---- the numbers of words
 
-abbrev words_read : (List ℕ → ℤ) → ℕ → ℕ → List ℕ → List ℤ
-words_read value w zero o = []
-words_read value w (suc n) o = value (take w o) ∷ words_read value w n (drop w o)
-
--- the numbers of an image are those of its first words
-words_first : (value : List ℕ → ℤ) (w n : ℕ) (o : List ℕ) → n * w ≤ length o
-    → words_read value w n (take (n * w) o) ≡ words_read value w n o
-words_first value w zero o h = refl
-words_first value w (suc n) o h =
-    let long : suc n * w ≡ w + n * w = omega arith in
-    let front : take w (take (w + n * w) o) ≡ take w o =
-    rw take-add (take_at (take w o) (take (n * w) (drop w o)) w (omega (arith, length-take w o, long))) in
-    let rest : n * w ≤ length (drop w o) = omega (arith, long, length-drop w o) in
-    rw (long, front, drop-take w (n * w) o, words_first value w n (drop w o) rest) refl
-
 abbrev value_of : Order → Kind → List ℕ → ℤ
 value_of o k p = number_of (is_signed (number k)) (word k) (loaded o (word k) p)
 
@@ -133,21 +101,19 @@ unfolding numbers_in number_in
 big_words k zero o len = refl
 big_words k (suc n) o len =
     let w : ℕ = width k in
-    let long : w + n * w ≡ suc n * w = omega arith in
     let f : List ℕ = take w o in
     let r : List ℕ = drop w o in
-    let front : length f ≡ w = omega (arith, length-take w o, long) in
-    let rest : length r ≡ n * w = omega (arith, length-drop w o, long) in
-    let turn : length (reverse f) ≡ w = length-reverse f ∙ front in
+    let s = first_run w n o len in
+    let turn : length (reverse f) ≡ w = length-reverse f ∙ s.0 in
     let split : swapped w o ≡ reverse f ++ swapped w r =
-    ap (swapped w) (sym (take-append-drop w o)) ∙ swapped-first w f r (some_octets k) front in
+    ap (swapped w) (sym (take-append-drop w o)) ∙ swapped-first w f r (some_octets k) s.0 in
     rw (
       split,
       take_at (reverse f) (swapped w r) w turn,
       drop_at (reverse f) (swapped w r) w turn,
       word_number k (from_be_bytes (word k) f),
-      turned_word k f front,
-      big_words k n r rest,
+      turned_word k f s.0,
+      big_words k n r s.1,
     ) refl
 
 none_swapped : (w : ℕ) → swapped w [] ≡ []
@@ -162,11 +128,10 @@ swapped_long k (suc n) o len =
     let long : w + n * w ≡ suc n * w = omega arith in
     let f : List ℕ = take w o in
     let r : List ℕ = drop w o in
-    let front : length f ≡ w = omega (arith, length-take w o, long) in
-    let rest : length r ≡ n * w = omega (arith, length-drop w o, long) in
-    ap (λ (z : List ℕ). length (swapped w z)) (sym (take-append-drop w o)) ∙ ap length (swapped-first w f r (some_octets k) front)
+    let s = first_run w n o len in
+    ap (λ (z : List ℕ). length (swapped w z)) (sym (take-append-drop w o)) ∙ ap length (swapped-first w f r (some_octets k) s.0)
     ∙ length-append (reverse f) (swapped w r)
-    ∙ omega (arith, length-reverse f, front, swapped_long k n r rest, long)
+    ∙ omega (arith, length-reverse f, s.0, s.1, swapped_long k n r s.1, long, len)
 
 image_words : (o : Order) (k : Kind) (n : ℕ) (os : List ℕ) → length os ≡ n * width k
     → words_read (value_of o k) (width k) n os ≡ numbers_of k (in_little o (width k) os)

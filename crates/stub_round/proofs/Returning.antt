@@ -1,36 +1,24 @@
 -- What stub code sends, stub code receives.
-use Rattle.std.proofs.Common.{◌≡◌, ℕ, ◌+◌, List, ◌++◌, length, take, drop, Some, sym, ap, ◌∙◌, arith, length-append}
-use Rattle.std.proofs.lemmas.List.{take-append-drop, length-take}
+use Rattle.std.proofs.Common.{◌≡◌, ℕ, ◌+◌, List, length, take, Some, sym, ap, ◌∙◌, arith, length-append}
 use Rattle.std.proofs.Math.Seq.{take-append_seam}
 use Rattle.mint.specs.Types.{Ty}
 use Rattle.mint.specs.Values.{Val}
 use Rattle.wire_def.specs.declared.encoding.Encoding.{Encoding}
-use Rattle.wire_def.specs.declared.fault.FaultKind.{FaultKind}
-use Rattle.wire_def.specs.Grammar.{Reading, got}
 use Rattle.wire_def.specs.Laws.{BeginsWith}
 use Rattle.wire_def.specs.Reading.{read}
 use Rattle.wire_def.specs.Send.{send}
-use Rattle.wire_def.proofs.Encodings.{grammar, sent_spells}
+use Rattle.wire_def.proofs.Encodings.{sent_spells}
 use Rattle.cast_stub.specs.Got.{IsExact, received, reported, given}
 use Rattle.cast_stub.specs.Runs.{Run, gives, refuses, strays}
 use Rattle.stub_round.specs.RoundTrip.{WhatIsSentIsReceived}
+use Rattle.wire_def.proofs.Begins.{reads, same_got}
 
 module _ (e : Encoding) (t : Ty) (p : ℕ) (o : List ℕ) where
-  reads : (v : Val) (used : ℕ) → BeginsWith e t p o v used → read e t p o ≡ got v (p + used) (drop used o)
-  reads v used h =
-      let long : length (take used o) ≡ used = omega (arith, length-take used o, h.there) in
-      let whole : take used o ++ drop used o ≡ o = take-append-drop used o in
-      let there = (grammar e t).reads p (take used o) (drop used o) v h.spelled.octets in
-      rw (whole, long) at there
-
-  same_value : (v w : Val) (q r : ℕ) (a b : List ℕ) (x : Reading FaultKind Val) → x ≡ got v q a → x ≡ got w r b → (v ≡ w) × (q ≡ r)
-  same_value v w q r a b x first second = let same = sym first ∙ second in (cc, cc)
-
   -- a run that is exact, over octets that begin with a value's
   gives_it : (v : Val) (used : ℕ) (x : Run Val) → BeginsWith e t p o v used → IsExact e t p o x
       → (tests : ℕ) × (reported x ≡ given v (p + used) tests)
   gives_it v used (gives w s) begins exact =
-      let same = same_value v w (p + used) (p + exact.0) _ _ (read e t p o) (reads v used begins) (reads w exact.0 exact.3) in
+      let same = same_got v w (p + used) (p + exact.0) _ _ (read e t p o) (reads e t p o v used begins) (reads e t p o w exact.0 exact.3) in
       (s.tests, ap (λ (y : Val). given y s.pos s.tests) (sym same.0) ∙ ap (λ (q : ℕ). given v q s.tests) (exact.1 ∙ sym same.1))
   gives_it v used refuses begins exact = absurd (exact v used begins)
   gives_it v used strays begins exact = absurd exact

@@ -4,6 +4,8 @@
 pub mod Grammars
 -- A number of a width is read as it is written
 pub mod Words
+-- The numbers of words one after the other, by induction on how many they are
+pub mod RowWords
 -- A scalar is a word that is one of its numbers
 pub mod ScalarGrammar
 -- Scalars by themselves are grammars
@@ -30,6 +32,8 @@ pub mod Room
 pub mod Typing
 -- * The laws, over each encoding
 pub mod Encodings
+-- What is read where octets begin with a value
+pub mod Begins
 -- * Nothing is sent exactly for types without octets, by mutual induction on types and fields
 pub mod Hollow
 -- Octets worked out by hand: the laws alone would hold of other formats too
