@@ -10,6 +10,7 @@ use Rattle.giop_head.specs.Printed.{long_octets, short_octets, then_long, then_s
 use Rattle.back_cdr.specs.Targets.{Target}
 use Rattle.back_cdr.specs.Leads.{lead, reply_lead}
 use Rattle.back_cdr.specs.Coded.{id_place, with_id}
+use Rattle.giop_head.proofs.Sent.{long_four}
 
 -- what is put after octets is the same after others of their length
 abbrev pub Grows : (List ℕ → List ℕ) → Type 0
@@ -83,10 +84,6 @@ long_first zero Big type = refl
 long_first zero Little type = refl
 long_first (suc m) Big type = refl
 long_first (suc m) Little type = refl
-
-long_four : (r : Order) (n : ℕ) → length (long_octets r n) ≡ 4
-long_four Big n = refl
-long_four Little n = refl
 
 -- and the id
 begun : (m : ℕ) (r : Order) (type id : ℕ) → then_long r id (first m r type) ≡ first m r type ++ long_octets r id

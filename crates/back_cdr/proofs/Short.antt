@@ -17,6 +17,7 @@ use Rattle.pres.specs.Bindings.{Binding, IsBinding}
 use Rattle.pres.specs.Faults.{is_long, has_long, has_long_in}
 use Rattle.back_cdr.specs.Targets.{Target, IsShort, HasShortNames, no_target, target_in, targets, target_of}
 use Rattle.back_cdr.specs.Leads.{lead, reply_lead}
+use Rattle.giop_head.proofs.Sent.{long_four}
 
 -- ---- names
 
@@ -79,10 +80,6 @@ pub name_short : (i : Interface) (op : Operation) (t : Target) → target_in (pl
 name_short i op t is h = omega (arith, ap (λ (x : Target). length x.name) is, h.name)
 
 -- ---- heads
-
-long_four : (r : Order) (n : ℕ) → length (long_octets r n) ≡ 4
-long_four Big n = refl
-long_four Little n = refl
 
 long_two : (r : Order) (n : ℕ) → length (short_octets r n) ≡ 2
 long_two Big n = refl

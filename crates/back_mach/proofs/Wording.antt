@@ -10,16 +10,6 @@ use Rattle.back_mach.specs.Words.{word, words}
 pub none_fell-put : (t : Tally) → NoneFell t (moved (stored t))
 none_fell-put t = record { checks = omega arith; moves = omega arith; stores = omega arith; rows = omega arith }
 
-pub none_fell-trans : (a b c : Tally) → NoneFell a b → NoneFell b c → NoneFell a c
-none_fell-trans a b c f g =
-    record {
-      checks = omega (arith, f.checks, g.checks);
-      moves = omega (arith, f.moves, g.moves);
-      stores =
-          omega (arith, f.stores, g.stores);
-      rows = omega (arith, f.rows, g.rows);
-    }
-
 pub none_fell-refl : (a : Tally) → NoneFell a a
 none_fell-refl a = record { checks = omega arith; moves = omega arith; stores = omega arith; rows = omega arith }
 

@@ -52,7 +52,7 @@ present_same f g h (items vs) = refl
 present_same f g h (arm n v) = refl
 present_same f g h absent = refl
 
-if_same : (q : Bool) (a b c d : List ℕ) → a ≡ b → c ≡ d → (if q then a else c) ≡ (if q then b else d)
+pub if_same : (q : Bool) (a b c d : List ℕ) → a ≡ b → c ≡ d → (if q then a else c) ≡ (if q then b else d)
 if_same true a b c d h k = h
 if_same false a b c d h k = k
 

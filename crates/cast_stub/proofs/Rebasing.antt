@@ -12,12 +12,12 @@ use Rattle.cast_stub.specs.Block.{Block, stop, ensure, ensure_row, align, chunk,
 use Rattle.cast_stub.specs.Steps.{Room, Patched, both, Calls, steps}
 use Rattle.cast_stub.specs.Append.{put_rebased, rebase}
 
-on_some-on_some : {A B C : Type 0} (o : Option A) (f : A → Option B) (g : B → Option C) → on_some (on_some o f) g
+pub on_some-on_some : {A B C : Type 0} (o : Option A) (f : A → Option B) (g : B → Option C) → on_some (on_some o f) g
     ≡ on_some o (λ a. on_some (f a) g)
 on_some-on_some None f g = refl
 on_some-on_some (Some a) f g = refl
 
-on_some_same : {A B : Type 0} (o : Option A) (f g : A → Option B) → ((a : A) → f a ≡ g a) → on_some o f ≡ on_some o g
+pub on_some_same : {A B : Type 0} (o : Option A) (f g : A → Option B) → ((a : A) → f a ≡ g a) → on_some o f ≡ on_some o g
 on_some_same None f g h = refl
 on_some_same (Some a) f g h = h a
 

@@ -19,6 +19,7 @@ use Rattle.cast_stub.specs.Runs.{Place, Run, gives, refuses, strays, Filler, the
 use Rattle.cast_stub.specs.PutPart.{put_part, put_field}
 use Rattle.cast_stub.specs.Into.{desc_into, row_into, wide_into}
 use Rattle.cast_stub.proofs.RecvParts.{replaced, within_is, put_is_there}
+use Rattle.cast_stub.proofs.Rebasing.{on_some-on_some, on_some_same}
 
 -- ---- a part of a part
 
@@ -39,20 +40,11 @@ within_within (n ∷ q) p f (tagged m t) s = refl
 within_within (n ∷ q) p f (flagged t) s = refl
 within_within (n ∷ q) p f (done v) s = refl
 
-on_some_on_some : {A B C : Type 0} (o : Option A) (f : A → Option B) (g : B → Option C) → on_some (on_some o f) g
-    ≡ on_some o (λ a. on_some (f a) g)
-on_some_on_some None f g = refl
-on_some_on_some (Some a) f g = refl
-
-on_some_same : {A B : Type 0} (o : Option A) (f g : A → Option B) → ((a : A) → f a ≡ g a) → on_some o f ≡ on_some o g
-on_some_same None f g h = refl
-on_some_same (Some a) f g h = h a
-
 part-append : (q p : List ℕ) (d : Draft) → part (q ++ p) d ≡ on_some (part q d) (part p)
 part-append [] p d = refl
 part-append (n ∷ q) p d =
     on_some_same (in_draft n d) (part (q ++ p))
-    (λ x. on_some (part q x) (part p)) (part-append q p) ∙ sym (on_some_on_some (in_draft n d) (part q) (part p))
+    (λ x. on_some (part q x) (part p)) (part-append q p) ∙ sym (on_some-on_some (in_draft n d) (part q) (part p))
 
 -- ---- what was put at a path is there, and is replaced by what is put there next
 

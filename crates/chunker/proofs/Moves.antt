@@ -203,7 +203,7 @@ if_less true x x' y y' e f = e
 if_less false x x' y y' e f = f
 
 -- a run is allowed seven moves at most
-at_most : (b : Block) → first_run 7 b ≤ 7
+pub at_most : (b : Block) → first_run 7 b ≤ 7
 at_most (align a r) = omega arith
 at_most (chunk s ps r) = omega arith
 at_most _ = omega arith

@@ -1,5 +1,5 @@
 -- What one more operation makes of the receive code that is made so far.
-use Rattle.std.proofs.Common.{◌≡◌, ℕ, zero, suc, ◌≤◌, ◌≢◌, ℤ, List, [], ◌∷◌, ◌++◌, length, map, drop, take, Option, Some, None, option_map, OnOk, Ok, Err, Result, refl, sym, ap, ◌∙◌, subst, arith}
+use Rattle.std.proofs.Common.{◌≡◌, ℕ, zero, suc, ◌≤◌, ◌≢◌, ℤ, List, [], ◌∷◌, ◌++◌, length, map, drop, take, Option, Some, None, option_map, refl, sym, ap, ◌∙◌, subst, arith}
 use Rattle.std.proofs.Math.ListN.{drop_of_length-le}
 use Rattle.std.proofs.lemmas.List.{take_all}
 use Rattle.cast_stub.specs.declared.recv.Get.{Get}
@@ -148,7 +148,3 @@ run_ended old new ph items ops i closes inv le same =
     sym (append-finish (code_seen new.out)) ∙ closes.made finish
     ∙ ap (λ (l : List RecvOp). under old (code_seen l)) (sym (drop_of_length-le items le)) ∙ inv
     ∙ ap (λ (l : List RecvOp). chunked ph 0 [] 0 (code_seen l)) same
-
-pub if_ok : {A E P Q : Type 0} (x : Result A E) → OnOk x P → (P → Q) → OnOk x Q
-if_ok (Ok a) h f = f h
-if_ok (Err e) h f = tt

@@ -14,6 +14,7 @@ use Rattle.chunker.specs.Chunked.{moved, consts_joined, zeros, chunk_of, closed,
 use Rattle.chunker.specs.Left.{by_fours, looped, switched, perhaps}
 use Rattle.chunker.specs.Phases.{unknown, modulo, shift, is_known}
 use Rattle.cast_stub.specs.Skeletons.{skeleton, cases_skeleton}
+use Rattle.cast_stub.proofs.Entering.{if_same}
 
 bare_chunk : (n : ℕ) (qs : List Put) (r : Block) → skeleton (chunk_of n qs r) ≡ skeleton r
 bare_chunk n [] r = refl
@@ -85,10 +86,6 @@ some_same o f g e = ap (of_some o) (fun_ext e)
 
 two_same : (a b c d : List ℕ) → a ≡ b → c ≡ d → a ++ c ≡ b ++ d
 two_same a b c d e f = ap (λ (x : List ℕ). x ++ c) e ∙ ap (λ (x : List ℕ). b ++ x) f
-
-if_same : (t : Bool) (x x' y y' : List ℕ) → x ≡ x' → y ≡ y' → (if t then x else y) ≡ (if t then x' else y')
-if_same true x x' y y' e f = e
-if_same false x x' y y' e f = f
 
 mutual
   -- chunks and aligns run no call

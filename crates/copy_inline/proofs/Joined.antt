@@ -5,6 +5,7 @@ use Rattle.cast_stub.specs.Parts.{on_some, IsThere}
 use Rattle.cast_stub.specs.Steps.{Step, Room, Pad, Stored, Widened, Copied, Patched, Steps, both}
 use Rattle.cast_stub.specs.Meaning.{patched, wrote, costs, HasRoom, AreCovered}
 use Rattle.copy_inline.proofs.RowWords.{stores, together}
+use Rattle.hoist.proofs.Promised.{same-then}
 
 -- the second steps are the first, with stores one after the other as a row
 abbrev pub Joined : List Step → List Step → Type 0
@@ -62,10 +63,6 @@ pub joined_widened : (k : ℕ) (ps : List (List ℕ)) → AreJoined (Some (store
 joined_widened k ps = (ps, [], sym (append-nil (stores ps)), refl, refl)
 
 -- ---- what they write
-
-same-then : (x : Option (List ℕ)) (f g : List ℕ → Option (List ℕ)) → ((a : List ℕ) → f a ≡ g a) → on_some x f ≡ on_some x g
-same-then None f g e = refl
-same-then (Some a) f g e = e a
 
 stores_wrote : (ps : List (List ℕ)) (base : ℕ) (o : List ℕ) (zs : List Step)
     → wrote base o (stores ps ++ zs) ≡ wrote base (o ++ together ps) zs

@@ -35,6 +35,7 @@ use Rattle.copy_inline.proofs.RowReady.{of_type}
 use Rattle.copy_inline.proofs.RecvSteps.{alike}
 use Rattle.copy_inline.proofs.RecvTimed.{settled_alike}
 use Rattle.copy_inline.proofs.RecvTyped.{fresh_is}
+use Rattle.cast_stub.proofs.Followed.{mapped}
 
 -- ---- what is given is ready
 
@@ -42,10 +43,6 @@ use Rattle.copy_inline.proofs.RecvTyped.{fresh_is}
 own : (F : Going) (below : ℕ) (p : List ℕ) (b : Recv) → Child no_subs F below p b → F below p b
 own F below p b (inl f) = f
 own F below p b (inr c) = absurd (let none = c.4 in cc)
-
-mapped : (f : ℕ → ℕ) (x : Option ℕ) (n : ℕ) → option_map f x ≡ Some n → (m : ℕ) × (x ≡ Some m)
-mapped f None n e = absurd cc
-mapped f (Some m) n e = (m, refl)
 
 module _ (e : Encoding) (t0 : Ty) where
   flat_ready : (b r : Recv) (n : ℕ) → descs b ≡ Some n → IsReady e t0 r → IsReady e t0 (append b r)
@@ -153,7 +150,8 @@ loop_free e (Some (items_type c t)) p b r ok go k = (go t ok, k)
 loop_free e None p b r ok go k = absurd ok
 loop_free e (Some _) p b r ok go k = absurd ok
 
-typed_free : {A B : Type 0} (x : Option A) (b : B) (f : A → B) (P : A → Type 0) (Q : B → Type 0) → OfType x P → ((a : A) → P a → Q (f a))
+pub typed_free : {A B : Type 0} (x : Option A) (b : B) (f : A → B) (P : A → Type 0) (Q : B → Type 0) → OfType x P → ((a : A) → P a
+    → Q (f a))
     → Q (by_type x b f)
 typed_free None b f P Q ok go = absurd ok
 typed_free (Some a) b f P Q ok go = go a ok

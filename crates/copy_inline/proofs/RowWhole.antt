@@ -21,14 +21,15 @@ use Rattle.cast_stub.proofs.Followed.{mapped}
 use Rattle.copy_inline.specs.declared.sorts.Sort.{Sort}
 use Rattle.copy_inline.specs.declared.sorts.Sort.TheVariants as sort
 use Rattle.copy_inline.specs.Counted.{blocks}
-use Rattle.copy_inline.specs.Ready.{OfType, LoopIs, IsReady, CasesReady}
-use Rattle.copy_inline.specs.Rowed.{row_or_loop, loop_rowed, by_type, rowed, cases_rowed}
+use Rattle.copy_inline.specs.Ready.{LoopIs, IsReady, CasesReady}
+use Rattle.copy_inline.specs.Rowed.{row_or_loop, loop_rowed, rowed, cases_rowed}
 use Rattle.copy_inline.specs.Rows.{IsGiven, IsRowed, GivesBlocks}
 use Rattle.copy_inline.specs.Sorts.{sort_of, is_image}
 use Rattle.copy_inline.proofs.Joined.{AreJoined, same_written, same_covered, same_checks}
 use Rattle.copy_inline.proofs.RowCounts.{Counts, row_counts}
 use Rattle.copy_inline.proofs.RowReady.{given_ready}
 use Rattle.copy_inline.proofs.RowSteps.{joins}
+use Rattle.copy_inline.proofs.RecvRowWhole.{typed_free}
 
 -- ---- no call
 
@@ -53,11 +54,6 @@ loop_free e (Some (array_type a)) p b r ok go k =
 loop_free e (Some (items_type c t)) p b r ok go k = (go t ok, k)
 loop_free e None p b r ok go k = absurd ok
 loop_free e (Some _) p b r ok go k = absurd ok
-
-typed_free : {A B : Type 0} (x : Option A) (b : B) (f : A → B) (P : A → Type 0) (Q : B → Type 0) → OfType x P → ((a : A) → P a → Q (f a))
-    → Q (by_type x b f)
-typed_free None b f P Q ok go = absurd ok
-typed_free (Some a) b f P Q ok go = go a ok
 
 mutual
   rowed_free : (e : Encoding) (b : Block) (t : Ty) → IsReady e t b → HasNoCall (rowed e t b)

@@ -1,5 +1,5 @@
 -- Typedefs, constants and declarations: what is read is what is spelled.
-use Rattle.std.proofs.Common.{◌≡◌, ◌⊎◌, inl, inr, ℕ, zero, suc, List, [], ◌∷◌, ◌++◌, Option, Bool, true, false, ◌||◌, refl, sym, ap, subst, ◌∙◌}
+use Rattle.std.proofs.Common.{◌≡◌, ◌⊎◌, inl, inr, ℕ, zero, suc, List, [], ◌∷◌, ◌++◌, Option, Bool, true, false, ◌||◌, refl, sym, subst, ◌∙◌}
 use Rattle.std.specs.Prelude.{codes}
 use Rattle.idl_lex.specs.declared.kinds.Token.{Token}
 use Rattle.idl_lex.specs.declared.kinds.TokenKind.{TokenKind}
@@ -16,7 +16,7 @@ use Rattle.idl_exprs.specs.Spelling.{identifier, expression}
 use Rattle.idl_exprs.specs.Readers.{is_identifier, is_joint}
 use Rattle.idl_exprs.proofs.LeavesRead.{identifier_is, leads_identifier}
 use Rattle.idl_exprs.proofs.Again.{May}
-use Rattle.idl_exprs.proofs.ExpressionsRead.{expression_is}
+use Rattle.idl_exprs.proofs.ExpressionsRead.{expression_is, with_lines}
 use Rattle.corba_decls.specs.declared.type_tree.Base.{Base}
 use Rattle.corba_decls.proofs.BasesRead.{Closes}
 use Rattle.corba_decls.proofs.SequencesRead.{whole, type_is, is_type}
@@ -234,10 +234,6 @@ leads_declaration zero d ks s = absurd s
 leads_declaration (suc n) d ks s = leads_declared (suc n) d ks s
 
 -- ---- one declaration
-
-with_lines : (ks : List TokenKind) → (ts : List Token) × (kinds ts ≡ ks)
-with_lines [] = ([], refl)
-with_lines (k ∷ ks) = let r = with_lines ks in (record { kind = k; line = 1 } ∷ r.0, ap (λ z. k ∷ z) r.1)
 
 pub one_only : (n : ℕ) (a b : Declaration) (ks : List TokenKind) → declaration n a ks → declaration n b ks → a ≡ b
 one_only n a b ks s t =

@@ -14,6 +14,7 @@ use Rattle.corba_decls.specs.declared.type_tree.Base.{Base}
 use Rattle.corba_decls.specs.TypeSpelling.{bound, held, type}
 use Rattle.corba_decls.specs.TypeReaders.{Typed, bound_at, sequence_of, ended_at, shared_at, type_at}
 use Rattle.corba_decls.proofs.BasesRead.{Closes, bound_is, leads_comma, is_close, leads_close, base_typed, base_is, is_plain, leads_base}
+use Rattle.idl_exprs.proofs.ExpressionsRead.{with_lines}
 
 abbrev pub typed : ℕ → Typed → Text
 typed n x = type n x.0.0 x.0.1 x.1
@@ -171,10 +172,6 @@ abbrev pub is_type : TokenKind → Bool
 is_type k = word_is (codes "sequence") k || (word_is (codes "string") k || is_plain 0 k)
 
 -- ---- one type
-
-with_lines : (ks : List TokenKind) → (ts : List Token) × (kinds ts ≡ ks)
-with_lines [] = ([], refl)
-with_lines (k ∷ ks) = let r = with_lines ks in (record { kind = k; line = 1 } ∷ r.0, ap (λ z. k ∷ z) r.1)
 
 pub one_only : (n : ℕ) (a b : List (Option Tree) × Base) (ks : List TokenKind) → type n a.0 a.1 false ks → type n b.0 b.1 false ks → a ≡ b
 one_only n a b ks s t =

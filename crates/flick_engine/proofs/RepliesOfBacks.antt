@@ -181,11 +181,6 @@ heard_same ids y used r e =
     ∙ ap (λ (h : Head). hearing r.head (fate_of ids r.status) (laid h.order) used) heads
     ∙ ap (hearing r.head (fate_of ids r.status) (laid r.head.order)) (ap (λ (x : giop_reported.ReportedReply). x.used) e)
 
--- one of the two back ends over CDR
-pub either_cdr : (k : Back) → (k ≡ back.CdrBig) ⊎ (k ≡ back.CdrLittle) → IsCdr k
-either_cdr k (inl is) = subst IsCdr (sym is) refl
-either_cdr k (inr is) = subst IsCdr (sym is) refl
-
 module _ (b : Binding) (op : ℕ) (o : List ℕ) where
   over : (k : Back) (r : ReplyHead) → b.back ≡ k → RepliesOver k b op o (heard_over k b op r) → BeginsReply b op o (heard b op r)
   over k r is h = subst (λ (m : Back). RepliesOver m b op o (heard_over m b op r)) (sym is) h

@@ -15,8 +15,3 @@ if-ok-and (Err e) P Q R f h r = h
 pub on-ok : {X E : Type 0} (x : Result X E) (P Q : Type 0) → (Q → P) → OnOk x Q → OnOk x P
 on-ok (Ok a) P Q f h = f h
 on-ok (Err e) P Q f h = h
-
--- what holds anyway
-pub on-any : {X E : Type 0} (x : Result X E) (P : Type 0) → P → OnOk x P
-on-any (Ok a) P h = h
-on-any (Err e) P h = tt

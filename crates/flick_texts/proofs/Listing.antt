@@ -13,7 +13,7 @@ use Rattle.stub_print.specs.RecvText.{recv_text}
 use Rattle.aoi.specs.declared.interfaces.Interface.{Interface}
 use Rattle.aoi.specs.Plain.{PlainInterface, plain_interface}
 use Rattle.pres.specs.declared.ops.Op.{Op}
-use Rattle.json_shape.specs.Operations.{dotted, interface_name}
+use Rattle.json_shape.specs.Operations.{dotted}
 use Rattle.stub_codes.specs.declared.stub.Stub.{Stub}
 use Rattle.stub_codes.specs.Stubs.{Coded}
 use Rattle.flick_texts.specs.StubTexts.{sent_text, received_text, both_texts, texts_of}
@@ -107,10 +107,3 @@ next_listed text c items listed i n o name out new many items_are listed_are lt 
     (subst (λ (z : List Op). i < length z) items_are lt) (subst (λ (z : List Op). o ≡ get_or z i o) items_are at)
     (named ∙ ap (λ z. dotted z o) listed_are)
     (subst (λ k. IfSome (slice_get c.stubs k) (λ s. new ≡ out ++ text name s)) n_is put) inv
-
--- an interface has its name in the plain tree
-pub interface_named : (is : List Interface) (k : ℕ) (i : Interface) → k < length is → i ≡ get_or is k i
-    → i.name ≡ interface_name (map plain_interface is) k
-interface_named [] k i h is = absurd (omega (arith, h))
-interface_named (j ∷ js) zero i h is = ap (λ (z : Interface). z.name) is
-interface_named (j ∷ js) (suc k) i h is = interface_named js k i (omega (arith, h)) is

@@ -2,14 +2,12 @@
 use Rattle.std.proofs.Common.{◌≡◌, ℕ, zero, suc, ◌+◌, ◌^◌, ◌<◌, Bool, true, false, List, [], ◌∷◌, ◌++◌, map, length, refl, sym, ap, ◌∙◌, arith}
 use Rattle.std.specs.Prelude.{◌%◌, ◌==◌, codes}
 use Rattle.std.proofs.lemmas.Bool.Decides.{nat_tests}
-use Rattle.std.proofs.lemmas.List.{length-map}
 use Rattle.mint.specs.Types.{Ty}
 use Rattle.case_make.specs.Made.{made}
 use Rattle.aoi.specs.Plain.{PlainInterface}
 use Rattle.pres.specs.declared.ops.Op.{Op}
 use Rattle.pres.specs.Bindings.{Binding}
 use Rattle.pres.specs.Faces.{Face}
-use Rattle.pres.specs.Offers.{offer_at}
 use Rattle.json_shape.specs.Operations.{dotted}
 use Rattle.stub_codes.specs.declared.stub.Stub.{Stub}
 use Rattle.stub_codes.specs.Stubs.{Coded}
@@ -19,9 +17,10 @@ use Rattle.flick_lines.specs.declared.verb.Verb.TheVariants as verbs
 use Rattle.flick_lines.proofs.Twins.{AreTwins, faces_in, AreSame, ops_alike, first_same, rest_same, none_same, names_alike, dotted_alike, request_alike, message_alike}
 use Rattle.flick_texts.specs.Counted.{messages_from, made_line}
 use Rattle.flick_texts.specs.MadeText.{turn, made_head, made_message, messages, make_text}
-use Rattle.flick_texts.specs.StubTexts.{sent_text, both_texts, texts_of, stubs_text}
+use Rattle.flick_texts.specs.StubTexts.{both_texts, texts_of, stubs_text, sent_text}
 use Rattle.flick_top.specs.Dispatch.{text_before}
 use Rattle.flick_top.proofs.FilesSay.{AreAlike}
+use Rattle.flick_serve.proofs.Alike.{many_alike}
 
 -- ---- stub code
 
@@ -65,12 +64,8 @@ before_alike verbs.Unreply d e alike = refl
 
 -- ---- messages that a number makes
 
-count_alike : (b c : Binding) → AreTwins b c → length b.ops ≡ length c.ops
-count_alike b c t =
-    sym (length-map b.ops (offer_at (faces_in b))) ∙ ap length (ops_alike b c t) ∙ length-map c.ops (offer_at (faces_in c))
-
 turn_alike : (b c : Binding) → AreTwins b c → (i : ℕ) → turn b i ≡ turn c i
-turn_alike b c t i = ap (λ (n : ℕ). i % n) (count_alike b c t)
+turn_alike b c t i = ap (λ (n : ℕ). i % n) (many_alike b c t)
 
 made_message_alike : (b c : Binding) → AreTwins b c → (m : ℕ) → 0 < length b.ops → (number i : ℕ)
     → made_message b m number i ≡ made_message c m number i
@@ -92,10 +87,10 @@ messages_alike : (b c : Binding) → AreTwins b c → (m number many : ℕ) → 
 messages_alike b c t m number many = go (length b.ops == 0) refl where
   go : (none : Bool) → (length b.ops == 0) ≡ none → messages b m number many ≡ messages c m number many
   go true e =
-      let also : (length c.ops == 0) ≡ true = ap (λ (n : ℕ). n == 0) (sym (count_alike b c t)) ∙ e in
+      let also : (length c.ops == 0) ≡ true = ap (λ (n : ℕ). n == 0) (sym (many_alike b c t)) ∙ e in
       rw (e, also) refl
   go false e =
-      let also : (length c.ops == 0) ≡ false = ap (λ (n : ℕ). n == 0) (sym (count_alike b c t)) ∙ e in
+      let also : (length c.ops == 0) ≡ false = ap (λ (n : ℕ). n == 0) (sym (many_alike b c t)) ∙ e in
       let some : 0 < length b.ops = grind (arith, nat_tests, e) in
       rw (e, also)
       (from_alike (made_message b m number) (made_message c m number) 0 many (made_message_alike b c t m some number))

@@ -6,7 +6,6 @@ use Rattle.kit_base.specs.declared.lines.Line.TheVariants.{Text, Long, End}
 use Rattle.wire_frames.specs.declared.messages.Part.{Part}
 use Rattle.raw_buf.specs.Buf.{Buf}
 use Rattle.flick_lines.specs.Sent.{nothing}
-use Rattle.flick_lines.proofs.Options.{on-any}
 use Rattle.flick_bridge.specs.Bridged.{Bridging}
 use Rattle.flick_top.specs.declared.answered.Answered.{Answered}
 use Rattle.flick_top.specs.declared.job.Job.{Job}
@@ -14,6 +13,7 @@ use Rattle.flick_top.specs.declared.job.Job.TheVariants as jobs
 use Rattle.flick_top.specs.declared.items.Item.{Item}
 use Rattle.flick_top.specs.declared.items.Item.TheVariants as items
 use Rattle.flick_top.specs.Answer.{answer_by, answer_of, engine_in, is_refusal, written_of, AnswersIn, IsPartLine, IsWrittenFor, SendsFor}
+use Rattle.flick_engine.proofs.Replying.{any_ok as on-any}
 
 -- for what a bridge answers nothing is sent
 pub bridge-sends : {E : Type 0} (r : Result Answered E) (job : Job) (s : Bridging) (octets : List ℕ) (buf : Buf) → job ≡ jobs.Bridge s

@@ -1,6 +1,6 @@
 -- The header of a message is a grammar, whatever is expected.
 use Rattle.std.proofs.Common.{◌≡◌, ◌⊎◌, inl, inr, ℕ, suc, List, [], ◌++◌, Bool, true, false, cond, refl, sym, ap, ◌∙◌, add-zero, append-nil, arith}
-use Rattle.std.specs.Prelude.{Result, Ok, Err, ◌==◌, ◌&&◌, ◌-◌, slice_index}
+use Rattle.std.specs.Prelude.{Result, Ok, Err, ◌==◌, ◌-◌, slice_index}
 use Rattle.std.proofs.lemmas.Bool.{eqb-true, or_cases}
 use Rattle.wire_def.specs.declared.fault.HeadErr.{HeadErr}
 use Rattle.wire_def.specs.declared.fault.HeadErr.TheVariants.{Magic, Version, Type_, Size}
@@ -12,6 +12,7 @@ use Rattle.giop_head.specs.declared.header.Heading.{Heading}
 use Rattle.giop_head.specs.declared.header.HeadKind.{HeadKind}
 use Rattle.giop_head.specs.declared.header.HeadKind.TheVariants.{Asks, Requests, Replies}
 use Rattle.giop_head.specs.Header.{has_minor, IsMinor, has_magic, has_version, has_order, expected, size_in, judged, header_of, HeaderSpells, HeaderStops, given, read_header}
+use Rattle.wire_def.proofs.ScalarGrammar.{right_true}
 
 given_is : (d : Result Heading HeadErr) → IsGrammar (given d) (λ p o h. (o ≡ []) × (d ≡ Ok h)) (λ p o k at. (d ≡ Err k) × (at ≡ p))
 given_is (Ok j) = record {
@@ -74,13 +75,9 @@ replies_one m e = eqb-true m 1 e
 pub requests_zero : (m : ℕ) → expected Requests m ≡ true → m ≡ 0
 requests_zero m e = eqb-true m 0 e
 
-second : (a b : Bool) → a && b ≡ true → b ≡ true
-second true b h = h
-second false b h = absurd cc
-
 -- octets of a version that is read have such a minor number
 pub has_one : (o : List ℕ) → has_version o ≡ true → IsMinor (slice_index o 5)
-has_one o h = second (slice_index o 4 == 1) (has_minor (slice_index o 5)) h
+has_one o h = right_true (slice_index o 4 == 1) (has_minor (slice_index o 5)) h
 
 pub is_minor : (w : HeadKind) (n : ℕ) (o : List ℕ) (h : Heading) → judged w n o ≡ Ok h → IsMinor h.minor
 unfolding judged

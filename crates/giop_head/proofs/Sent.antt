@@ -106,7 +106,7 @@ module _ (w : HeadKind) (m : ℕ) (r : Order) (type : ℕ) (fields body : List �
   rest = ap (drop (length head)) (whole ∙ sym (append_assoc sized_head fields body))
       ∙ drop_at (sized_head ++ fields) body (length head) (sym long_head)
 
-long_four : (r : Order) (n : ℕ) → length (long_octets r n) ≡ 4
+pub long_four : (r : Order) (n : ℕ) → length (long_octets r n) ≡ 4
 long_four Big n = refl
 long_four Little n = refl
 

@@ -14,7 +14,7 @@ use Rattle.mint.specs.Types.{Ty, Scalar, Arms, choice_type, type_at}
 use Rattle.mint.specs.Types as types
 use Rattle.mint.proofs.Measuring.{sound_taken}
 use Rattle.wire_def.specs.declared.encoding.Back.{Back}
-use Rattle.aoi.specs.Plain.{PlainRaise, PlainInterface, PlainOperation}
+use Rattle.aoi.specs.Plain.{PlainInterface, PlainOperation}
 use Rattle.pres.specs.declared.ops.Op.{Op}
 use Rattle.pres.specs.Bindings.{Binding, IsBinding, IsPlaced}
 use Rattle.pres.specs.Faces.{Face, at, faces, type_of, arm_types_of}
@@ -22,6 +22,7 @@ use Rattle.pres.specs.Offers.{Offer, operations, offer, offers_from, offer_at, a
 use Rattle.pres.specs.Raises.{raises, raises_of, source, sources, sources_of}
 use Rattle.pres.proofs.Facing.{type_at-face}
 use Rattle.head_arms.specs.Raised.{exceptions}
+use Rattle.pres.proofs.SoundUnit.{raised_count}
 
 -- ---- the operations that have messages
 
@@ -104,10 +105,6 @@ node_count : (us : List Ty) (arms : List (ℤ × ℕ)) (o : Option ℕ) → leng
 node_count us [] None = refl
 node_count us [] (Some i) = refl
 node_count us (a ∷ arms) o = ap suc (node_count us arms o)
-
-raised_count : (fs : List Face) (k : ℕ) (rs : List PlainRaise) → length (arm_numbers (arm_types_of (raised fs k rs))) ≡ length rs
-raised_count fs k [] = refl
-raised_count fs k (r ∷ rs) = ap suc (raised_count fs (suc k) rs)
 
 -- a sound choice has few arms
 few : (s : Scalar) (arms : Arms) → IsSound (choice_type s arms) → length (arm_numbers arms) ≤ 4096

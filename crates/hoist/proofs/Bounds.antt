@@ -137,7 +137,7 @@ within-other x None n h = no_bound x
 within-other x (Some m) None h = no_bound x
 within-other x (Some m) (Some n) h = within-more x n (max m n) (omega arith) h
 
-none_more : (m : Option ℕ) → plus (Some 0) m ≡ m
+pub none_more : (m : Option ℕ) → plus (Some 0) m ≡ m
 none_more None = refl
 none_more (Some n) = let e : 0 + n ≡ n = omega arith in ap (λ (k : ℕ). Some k) e
 

@@ -1,5 +1,5 @@
 -- Nodes of parts, and bounds of operations before others.
-use Rattle.std.proofs.Common.{◌≡◌, ℕ, zero, suc, ◌+◌, ◌<◌, ℤ, List, [], ◌∷◌, length, drop, get_or, Option, Some, None, option_map, refl, sym, ap, ◌∙◌, arith, Bool, true, false, if◌then◌else◌}
+use Rattle.std.proofs.Common.{◌≡◌, ℕ, zero, suc, ◌<◌, ℤ, List, [], ◌∷◌, length, drop, get_or, Option, Some, None, option_map, refl, sym, ap, ◌∙◌, Bool, true, false, if◌then◌else◌}
 use Rattle.std.specs.Prelude.{slice_get}
 use Rattle.std.proofs.Math.Seq.{drop-cons}
 use Rattle.std.specs.Ordering.{int_eq}
@@ -14,6 +14,7 @@ use Rattle.cast_stub.specs.PartTypes.{field_type, element_at, present_at, arms_a
 use Rattle.cast_stub.proofs.Codes.{code-drop}
 use Rattle.cast_stub.proofs.Pieces.{pieces, seen-Switch}
 use Rattle.hoist.specs.Bound.{plus, greater, bound, cases_bound}
+use Rattle.hoist.proofs.Bounds.{none_more}
 
 abbrev pair : Ty → Count → Ty × Count
 pair t n = (t, n)
@@ -36,11 +37,7 @@ pub no-arms : (p : List ℕ) (s : Scalar) → arms_at p (scalar_type s) ≡ None
 no-arms [] s = refl
 no-arms (n ∷ p) s = refl
 
-pub none-more : (m : Option ℕ) → plus (Some 0) m ≡ m
-none-more None = refl
-none-more (Some n) = let e : 0 + n ≡ n = omega arith in ap (λ (k : ℕ). Some k) e
-
-pub ruleset nodes = (field-at, no-elements, no-value, no-arms, code-drop, none-more, pieces)
+pub ruleset nodes = (field-at, no-elements, no-value, no-arms, code-drop, none_more, pieces)
 
 -- ---- arms and bodies in step
 

@@ -32,7 +32,7 @@ given-taken enc t given is = framed_taken (sizes enc) t is.1 (code_seen given.op
 
 -- ---- what is written does not depend on room
 
-same-then : (x : Option (List ℕ)) (f g : List ℕ → Option (List ℕ)) → ((a : List ℕ) → f a ≡ g a) → on_some x f ≡ on_some x g
+pub same-then : (x : Option (List ℕ)) (f g : List ℕ → Option (List ℕ)) → ((a : List ℕ) → f a ≡ g a) → on_some x f ≡ on_some x g
 same-then None f g e = refl
 same-then (Some a) f g e = e a
 

@@ -24,6 +24,7 @@ use Rattle.hoist.specs.Bound.{most, plus}
 use Rattle.wire_def.specs.Hollow.{is_hollow, are_hollow}
 use Rattle.hoist.specs.Regions.{AreSizes, fields_top, fields_weight, ArmsBounded, IsCounted}
 use Rattle.hoist.specs.SpanSizes.{least, weight_of, scalar_top, count_length, sizes}
+use Rattle.wire_def.proofs.Short.{gap_most}
 
 -- ---- greatest and least lengths
 
@@ -365,20 +366,14 @@ lone_some CdrBig s p = let w = own_some (width_of CdrBig s) (own_of CdrBig s) in
 lone_some CdrLittle s p = let w = own_some (width_of CdrLittle s) (own_of CdrLittle s) in omega (arith, w.0)
 lone_some Mach s p = omega arith
 
-gap_few : (w : Width) → IsOwn w → (p : ℕ) → gap p (byte_len w) ≤ 7
-gap_few _ is8 p = omega arith
-gap_few _ is16 p = omega arith
-gap_few _ is32 p = omega arith
-gap_few _ is64 p = omega arith
-
 lone_few : (e : Encoding) (s : Scalar) (p : ℕ) → lone_length e s p ≤ 15
 lone_few Xdr s p = let w = own_some (width_of Xdr s) (own_of Xdr s) in let none : gap p 1 ≡ 0 = omega arith in omega (arith, w.1, none)
 lone_few CdrBig s p =
     let w = own_some (width_of CdrBig s) (own_of CdrBig s) in
-    omega (arith, w.1, gap_few (own_width s) (own_of CdrBig s) p)
+    omega (arith, w.1, gap_most (own_width s) (own_of CdrBig s) p)
 lone_few CdrLittle s p =
     let w = own_some (width_of CdrLittle s) (own_of CdrLittle s) in
-    omega (arith, w.1, gap_few (own_width s) (own_of CdrLittle s) p)
+    omega (arith, w.1, gap_most (own_width s) (own_of CdrLittle s) p)
 lone_few Mach s p = let w = own_some (width_of Mach s) (own_of Mach s) in omega (arith, w.1)
 
 max_few : (a b k : ℕ) → a ≤ k → b ≤ k → max a b ≤ k

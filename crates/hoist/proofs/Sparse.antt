@@ -13,7 +13,7 @@ use Rattle.hoist.specs.Laws.{HoistingSparesRows}
 
 -- ---- bounded code is bare
 
-parts_there : (a b : Option ℕ) → IsThere (plus a b) → IsThere a × IsThere b
+pub parts_there : (a b : Option ℕ) → IsThere (plus a b) → IsThere a × IsThere b
 parts_there None b h = absurd h
 parts_there (Some m) None h = absurd h
 parts_there (Some m) (Some n) h = (tt, tt)

@@ -7,20 +7,21 @@ use Rattle.cast_stub.specs.Parts.{on_some, IsThere}
 use Rattle.cast_stub.specs.Block.{Block, stop, align, chunk, each, switch, if_there, patch, Cases}
 use Rattle.cast_stub.specs.Append.{append}
 use Rattle.cast_stub.specs.Follows as follows
-use Rattle.cast_stub.specs.Follows.{IsFlat, IsCount, Going, Child, Follows, FieldsFollow, ArmsFollow}
+use Rattle.cast_stub.specs.Follows.{IsCount, Follows, FieldsFollow, ArmsFollow}
 use Rattle.cast_stub.specs.Subs.{no_subs}
 use Rattle.cast_stub.specs.PartTypes.{ty_at, element_at, present_at, arms_at, present_type, arms_type}
 use Rattle.cast_stub.proofs.Appending.{append-stop, append-assoc}
-use Rattle.hoist.specs.Bound.{plus, bound}
+use Rattle.hoist.specs.Bound.{bound}
 use Rattle.cast_stub.specs.Framed.{lead_length, IsTail}
 use Rattle.hoist.specs.Hoisted.{Plan, flat, small, loop, apart, Role, is_small, is_row, is_break, IfRow, turn_bound, each_plan, some_plan, switch_plan, items_in_type, items_at, InType, WhereApart, IsTaken, CasesTaken}
 use Rattle.hoist.specs.Laws.{FramedIsTaken}
 use Rattle.hoist.specs.Regions.{Sizes, AreSizes, on_way, roles, role_at, weight_at, is_light, fields_top}
-use Rattle.hoist.proofs.Standing.{loop_row, heavy_role}
+use Rattle.hoist.proofs.Standing.{loop_row, heavy_role, either_way}
 use Rattle.hoist.proofs.Light.{loop_small, small_role}
 use Rattle.cast_stub.proofs.Followed.{own}
 use Rattle.hoist.proofs.Quiet.{mapped}
 use Rattle.hoist.proofs.Ways.{AreFrom, from-first, from-next, from-head, ty-field, way-field, some_of, loop_bound, array_there, row_turn_there, turn_there}
+use Rattle.hoist.proofs.Sparse.{parts_there}
 
 not_apart : (plan other : Plan) (T : Type 0) → plan ≡ other → WhereApart other T → WhereApart plan T
 not_apart plan other T e h = subst (λ (y : Plan). WhereApart y T) (sym e) h
@@ -50,18 +51,9 @@ light_there : (x : Option ℕ) → is_light x ≡ true → IsThere x
 light_there None e = absurd cc
 light_there (Some n) e = tt
 
-either : (x : Bool) (G : Type 0) → (x ≡ true → G) → (x ≡ false → G) → G
-either true G f g = f refl
-either false G f g = g refl
-
 one_of : (a b : Bool) (G : Type 0) → (a || b) ≡ true → (a ≡ true → G) → (b ≡ true → G) → G
 one_of true b G e f g = f refl
 one_of false b G e f g = g e
-
-tops : (a b : Option ℕ) → IsThere (plus a b) → IsThere a × IsThere b
-tops None b h = absurd h
-tops (Some m) None h = absurd h
-tops (Some m) (Some n) h = (tt, tt)
 
 module _ (z : Sizes) (sizes : AreSizes z) where
   -- elements of one length
@@ -96,7 +88,7 @@ module _ (z : Sizes) (sizes : AreSizes z) where
         let u = on_some (element_at p t0) (λ y. bound y.0 f.1) in
         let T = InType (items_at p t0) (λ y. IsTaken (roles z) y f.1) in
         let plan : WhereApart (each_plan (roles z) t0 p f.1) T =
-        either (on_way z p t0) (WhereApart (each_plan (roles z) t0 p f.1) T)
+        either_way (on_way z p t0) (WhereApart (each_plan (roles z) t0 p f.1) T)
         (λ w.
         let s = loop_small (roles z t0 p) n u p (z.weight (array_type a)) (small_role z p t0 (array_type a) w is)
         (array_there z sizes a p f.1 f.4 t0 is (way w) f.8) in
@@ -146,9 +138,9 @@ module _ (z : Sizes) (sizes : AreSizes z) where
         let on = way-field z p i t0 (group_type all) t is head in
         let way' : on_way z (p ++ i ∷ []) t0 ≡ true → IsThere (z.top t) =
         λ w. one_of (on_way z p t0) (is_light (z.top t)) (IsThere (z.top t)) (sym on ∙ w)
-        (λ a. (tops (z.top t) (fields_top z ts) (way a)).0) (light_there (z.top t)) in
+        (λ a. (parts_there (z.top t) (fields_top z ts) (way a)).0) (light_there (z.top t)) in
         let rest = fields_taken ts (suc i) all below p f.1 r t0 is (from-next i all t ts from)
-        (λ w. (tops (z.top t) (fields_top z ts) (way w)).1) f.4 h in
+        (λ w. (parts_there (z.top t) (fields_top z ts) (way w)).1) f.4 h in
         subst (IsTaken (roles z) t0) (sym e) (taken t below (p ++ i ∷ []) f.0 (append f.1 r) t0 (ty-field p i t0 (group_type all) t is head)
         way' (own (Follows no_subs t) below (p ++ i ∷ []) f.0 f.3) rest)
 

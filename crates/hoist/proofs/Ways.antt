@@ -7,12 +7,12 @@ use Rattle.mint.specs.declared.kind.Count.{Count}
 use Rattle.mint.specs.declared.kind.Count.TheVariants.{Exactly, AtMost, Any}
 use Rattle.mint.specs.Types.{Scalar, number, Array, text, row_of, Ty, void_type, scalar_type, array_type, group_type, items_type, choice_type, maybe_type, Tys, no_fields, field, Arms, no_other, others, arm_type}
 use Rattle.mint.specs.Values.{Val, Vals, group}
-use Rattle.cast_stub.specs.Parts.{on_some, at, in_group, IsThere}
+use Rattle.cast_stub.specs.Parts.{on_some, at, IsThere}
 use Rattle.cast_stub.specs.Parts as part
 use Rattle.cast_stub.specs.Block.{Block, stop, align, chunk, each, switch, if_there, patch, Cases}
 use Rattle.cast_stub.specs.Append.{append}
 use Rattle.cast_stub.specs.Follows as follows
-use Rattle.cast_stub.specs.Follows.{IsFlat, IsLoop, IsCount, Going, Child, Follows, FieldsFollow, ArmsFollow}
+use Rattle.cast_stub.specs.Follows.{IsCount, Follows, FieldsFollow, ArmsFollow}
 use Rattle.cast_stub.specs.Subs.{no_subs}
 use Rattle.cast_stub.specs.PartTypes.{field_type, in_group_type, ty_at, element_at, present_at, arms_at, elements_type, present_type, arms_type}
 use Rattle.cast_stub.proofs.Rebasing.{at-append}
@@ -21,6 +21,7 @@ use Rattle.hoist.specs.Regions.{Sizes, on_way, further_on, is_light, AreSizes, f
 use Rattle.cast_stub.proofs.Followed.{own}
 use Rattle.hoist.proofs.Quiet.{mapped}
 use Rattle.wire_def.specs.Arrays.{count_of}
+use Rattle.hoist.proofs.Sparse.{parts_there}
 
 -- ---- ways
 
@@ -82,11 +83,6 @@ there_plus None b h k = absurd h
 there_plus (Some m) None h k = absurd k
 there_plus (Some m) (Some n) h k = tt
 
-there_parts : (a b : Option ℕ) → IsThere (plus a b) → IsThere a × IsThere b
-there_parts None b h = absurd h
-there_parts (Some m) None h = absurd h
-there_parts (Some m) (Some n) h = (tt, tt)
-
 there_times : (a b : Option ℕ) → IsThere a → IsThere b → IsThere (times a b)
 there_times None b h k = absurd h
 there_times (Some m) None h k = absurd k
@@ -107,20 +103,20 @@ some_of (Some a) h = (a, refl)
 bound-append : (t : Ty) (a b : Block) → IsThere (bound t a) → IsThere (bound t b) → IsThere (bound t (append a b))
 bound-append t stop b h k = k
 bound-append t (align n r) b h k =
-    let p = there_parts (Some (n - 1)) (bound t r) h in
+    let p = parts_there (Some (n - 1)) (bound t r) h in
     there_plus (Some (n - 1)) (bound t (append r b)) tt (bound-append t r b p.1 k)
 bound-append t (chunk s ps r) b h k =
-    let p = there_parts (Some s) (bound t r) h in
+    let p = parts_there (Some s) (bound t r) h in
     there_plus (Some s) (bound t (append r b)) tt (bound-append t r b p.1 k)
 bound-append t (each q w r) b h k =
     let x = on_some (element_at q t) (λ e. times (most e.1) (bound e.0 w)) in
-    let p = there_parts x (bound t r) h in there_plus x (bound t (append r b)) p.0 (bound-append t r b p.1 k)
+    let p = parts_there x (bound t r) h in there_plus x (bound t (append r b)) p.0 (bound-append t r b p.1 k)
 bound-append t (switch q cs r) b h k =
     let x = on_some (arms_at q t) (λ arms. cases_bound arms cs) in
-    let p = there_parts x (bound t r) h in there_plus x (bound t (append r b)) p.0 (bound-append t r b p.1 k)
+    let p = parts_there x (bound t r) h in there_plus x (bound t (append r b)) p.0 (bound-append t r b p.1 k)
 bound-append t (if_there q w r) b h k =
     let x = on_some (present_at q t) (λ u. bound u w) in
-    let p = there_parts x (bound t r) h in there_plus x (bound t (append r b)) p.0 (bound-append t r b p.1 k)
+    let p = parts_there x (bound t r) h in there_plus x (bound t (append r b)) p.0 (bound-append t r b p.1 k)
 bound-append t (patch a s o r) b h k = bound-append t r b h k
 bound-append t _ b h k = absurd h
 
@@ -215,7 +211,7 @@ module _ (z : Sizes) (sizes : AreSizes z) where
         → IsThere (bound t0 b)
     fields_there no_fields i all below p b t0 e from top h = subst (λ (y : Block). IsThere (bound t0 y)) (sym h) tt
     fields_there (field t ts) i all below p b t0 e from top h =
-        let tops = there_parts (z.top t) (fields_top z ts) top in
+        let tops = parts_there (z.top t) (fields_top z ts) top in
         subst (λ (y : Block). IsThere (bound t0 y)) (sym h.2)
         (bound-append t0 h.0 h.1
         (there t below (p ++ i ∷ []) h.0 t0 (ty-field p i t0 (group_type all) t e (from-head i all t ts from)) tops.0

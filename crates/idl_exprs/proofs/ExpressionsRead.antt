@@ -37,7 +37,7 @@ mig_expression_is n = any_is Mig n false
 at_end : (lang : Language) → MayFollow lang false 6 []
 at_end lang = record { name = refl; no_operator = λ d lt. refl; joint = λ yes. absurd cc }
 
-with_lines : (ks : List TokenKind) → (ts : List Token) × (kinds ts ≡ ks)
+pub with_lines : (ks : List TokenKind) → (ts : List Token) × (kinds ts ≡ ks)
 with_lines [] = ([], refl)
 with_lines (k ∷ ks) = let r = with_lines ks in (record { kind = k; line = 1 } ∷ r.0, ap (λ z. k ∷ z) r.1)
 

@@ -45,7 +45,7 @@ parted (t ∷ ts) (k ∷ a) b e =
     let p = parted ts a b rest in
     (t ∷ p.0, p.1, ap (λ us. t ∷ us) p.2, cc (one, p.3), p.4)
 
-no_kinds : (ts : List Token) → kinds ts ≡ [] → ts ≡ []
+pub no_kinds : (ts : List Token) → kinds ts ≡ [] → ts ≡ []
 no_kinds [] e = refl
 no_kinds (t ∷ ts) e = absurd cc
 

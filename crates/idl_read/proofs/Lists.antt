@@ -4,7 +4,7 @@ use Rattle.idl_lex.specs.declared.kinds.Token.{Token}
 use Rattle.idl_lex.specs.declared.kinds.TokenKind.{TokenKind}
 use Rattle.idl_read.specs.Reading.{Reader, word_is, mark_is, begins_with, begins_other, cons, joined_at, until_at, while_at, if_some, some_at}
 use Rattle.idl_read.specs.Grammar.{Text, mark, ◌&◌, each, joined, some, kinds, IsGrammar, Leads, Any}
-use Rattle.idl_read.proofs.Grammars.{read_is, then_some, parted, mapped_is, both_is, many_is, IsRow}
+use Rattle.idl_read.proofs.Grammars.{read_is, then_some, parted, mapped_is, both_is, many_is, IsRow, no_kinds}
 use Rattle.idl_read.proofs.Leaves.{mark_reads, Apart, leads_mark, leads_both, begins_so, begins_else}
 use Rattle.idl_read.proofs.Productions.{weaker, after_is, leads_after}
 
@@ -20,10 +20,6 @@ shorter_by {A} {r} {S} {May} {f} g l ts x rest e = let a = g.found ts x rest e i
   go : (front : List Token) → ts ≡ front ++ rest → S x (kinds front) → length rest < length ts
   go [] is s = let y = l x [] s in absurd (let h : [] ≡ y.0 ∷ y.1 = y.2 in cc)
   go (t ∷ front) is s = omega (arith, ap length is, length-append front rest)
-
-no_kinds : (ts : List Token) → kinds ts ≡ [] → ts ≡ []
-no_kinds [] e = refl
-no_kinds (t ∷ ts) e = absurd cc
 
 pub joined_is : {A : Type 0} {r : Reader A} {S : A → Text} {May : List Token → Type 0} (m : List ℕ) → IsGrammar r S May
     → ((ts : List Token) → begins_with (mark_is m) ts ≡ true → May ts)

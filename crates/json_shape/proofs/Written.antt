@@ -20,6 +20,7 @@ use Rattle.json_shape.specs.Written.{items_json, json_of, in_order_json, by_name
 use Rattle.wire_def.proofs.ScalarGrammar.{left_true, right_true}
 use Rattle.json_shape.proofs.WrittenScalars.{sign_written, array_written, is_name}
 use Rattle.std.proofs.lemmas.Bool.{not-true, or_parts}
+use Rattle.wire_def.proofs.Typing.{match_both}
 
 each_shows : (f : Face) (P : Val → Type 0) → ((v : Val) → P v → Shows f (json_of f v) v) → (vs : Vals) → Each P vs
     → ShowEach (Shows f) (items_json (json_of f) vs) vs
@@ -76,10 +77,6 @@ sizes (part n f ps) (val v vs) h typed =
     omega (arith, size-put (text_of n) (json_of f v) (by_name_json ps vs) (missing ps vs n new), rest)
 
 -- ---- trees
-
-match_both : (b : Bool) {P Q R S : Type 0} → MatchBool b P Q → (P → R) → (Q → S) → MatchBool b R S
-match_both true h f g = f h
-match_both false h f g = g h
 
 chosen : (b : Bool) (f : Face) (arms : Arms) (n : ℤ) (x y : Data) (v : Val) → MatchBool b (Shows f x v) (ShowsArm arms n y v)
     → MatchBool b (Shows f (if b then x else y) v) (ShowsArm arms n (if b then x else y) v)

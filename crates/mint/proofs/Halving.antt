@@ -18,7 +18,7 @@ below_trans (negsuc a) (pos b) (negsuc c) p q = absurd (true≢false (sym q))
 below_trans (negsuc a) (negsuc b) (negsuc c) p q = lt-ltb c a (omega (arith, ltb-true b a p, ltb-true c b q))
 below_trans (negsuc a) b (pos c) p q = refl
 
-asym : (x y : ℤ) → int_lt x y ≡ true → int_lt y x ≡ false
+pub asym : (x y : ℤ) → int_lt x y ≡ true → int_lt y x ≡ false
 asym (pos a) (pos b) h = le-ltb b a (omega (arith, ltb-true a b h))
 asym (pos a) (negsuc b) h = absurd (true≢false (sym h))
 asym (negsuc a) (pos b) h = refl

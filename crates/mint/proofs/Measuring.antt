@@ -189,7 +189,7 @@ size_kept f g es i e are h is =
 pub size_small : (nodes : List Node) (sizes : List Size) (i : ℕ) → AreMeasured nodes sizes → i < length nodes → Taken (type_at nodes i)
 size_small nodes sizes i are h = sound_taken (type_at nodes i) (sound_at (unfolded nodes) i are.sound (rw (length-unfolded nodes) h))
 
-found_below : (nodes : List Node) (i : ℕ) (n : Node) → slice_get nodes i ≡ Some n → i < length nodes
+pub found_below : (nodes : List Node) (i : ℕ) (n : Node) → slice_get nodes i ≡ Some n → i < length nodes
 found_below [] i n is = absurd cc
 found_below (m ∷ nodes) zero n is = omega arith
 found_below (m ∷ nodes) (suc i) n is = let less = found_below nodes i n is in omega arith

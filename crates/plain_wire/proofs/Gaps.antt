@@ -1,14 +1,11 @@
 -- Where nothing is aligned there is no gap, and numbers fit their widths.
-use Rattle.std.proofs.Common.{◌≡◌, ℕ, ℤ, pos, negsuc, arith}
+use Rattle.std.proofs.Common.{ℤ, pos, negsuc, arith}
 use Rattle.std.specs.Prelude.{◌≤ℤ◌, ◌<ℤ◌}
 use Rattle.std.proofs.Math.Dec.{le→leb, lt→ltb}
 use Rattle.std.specs.Int.{w8, w16, w32, w64}
 use Rattle.std.proofs.lemmas.Int.{to_z-of_z}
-use Rattle.wire_def.specs.Scalars.{gap}
 use Rattle.plain_wire.specs.Widths.{FitsWidth}
-
-pub no_gap : (p : ℕ) → 0 ≡ gap p 1
-no_gap p = omega arith
+use Rattle.wire_def.proofs.DescribedGrammar.{no_gap}
 
 pub ruleset gaps = (no_gap)
 

@@ -194,7 +194,7 @@ raised_numbers fs k [] = refl
 raised_numbers fs k (r ∷ rs) = let up : nat_lt k (suc k) ≡ true = lt-ltb k (suc k) (omega arith) in rw (up, raised_numbers fs (suc k) rs)
     refl
 
-raised_count : (fs : List Face) (k : ℕ) (rs : List PlainRaise) → length (arm_numbers (arm_types_of (raised fs k rs))) ≡ length rs
+pub raised_count : (fs : List Face) (k : ℕ) (rs : List PlainRaise) → length (arm_numbers (arm_types_of (raised fs k rs))) ≡ length rs
 raised_count fs k [] = refl
 raised_count fs k (r ∷ rs) = ap suc (raised_count fs (suc k) rs)
 

@@ -1,18 +1,19 @@
 -- Lists of eight.
-use Rattle.std.proofs.Common.{◌≡◌, ℕ, zero, suc, ◌+◌, ◌-◌, ◌*◌, ◌/◌, ◌%◌, ◌<◌, ◌≤◌, max, List, [], ◌∷◌, get_or, length, Bool, true, false, nat_le, refl, sym, ap, ◌∙◌, arith}
+use Rattle.std.proofs.Common.{◌≡◌, ℕ, zero, suc, ◌+◌, ◌-◌, ◌*◌, ◌/◌, ◌≤◌, max, List, [], ◌∷◌, get_or, length, true, nat_le, refl, ap, ◌∙◌, arith}
 use Rattle.std.specs.List.{list_all}
 use Rattle.std.proofs.lemmas.Bool.{leb-true}
 use Rattle.mint.specs.declared.kind.Kind.{Kind}
 use Rattle.mint.specs.declared.kind.Kind.TheVariants as kind
 use Rattle.mint.specs.declared.kind.Count.{Count}
-use Rattle.mint.specs.Types.{Scalar, number, label, text, row_of}
+use Rattle.mint.specs.Types.{number, label, text, row_of}
 use Rattle.wire_def.specs.declared.encoding.Encoding.{Encoding}
 use Rattle.wire_def.specs.declared.encoding.Encoding.TheVariants.{Xdr, CdrBig, CdrLittle, Mach}
 use Rattle.wire_def.specs.Scalars.{gap}
 use Rattle.wire_def.specs.Lone.{IsPlain}
 use Rattle.wire_def.proofs.ScalarGrammar.{left_true, right_true}
-use Rattle.storage_class.specs.Classing.{from_each, greatest}
-use Rattle.storage_class.specs.Spans.{scalar_span, element_length, elements_length, array_length, array_most, array_counted, text_counted, array_span}
+use Rattle.storage_class.specs.Classing.{greatest}
+use Rattle.storage_class.specs.Spans.{scalar_span, elements_length, array_most, array_counted, text_counted, array_span}
+use Rattle.wire_def.proofs.DescribedGrammar.{no_gap}
 
 pub reported_at : (f : List ℕ) (i : ℕ) → list_all (λ n. nat_le n 4294967295) f ≡ true → get_or f i 0 ≤ 4294967295
 reported_at [] i h = omega arith
@@ -32,9 +33,9 @@ four a b c d ns = max_joins a (max b (max c d)) (greatest ns)
     ∙ ap (max a) (max_joins b (max c d) (greatest ns) ∙ ap (max b) (max_joins c d (greatest ns)))
 
 last_four : (a b c d : ℕ) → max a (max b (max c d)) ≡ greatest (a ∷ b ∷ c ∷ d ∷ [])
-last_four a b c d = ap (λ z. max a (max b (max c z))) (none d) where
-  none : (n : ℕ) → n ≡ max n 0
-  none n = omega arith
+last_four a b c d = ap (λ z. max a (max b (max c z))) (no_gap d) where
+  no_gap : (n : ℕ) → n ≡ max n 0
+  no_gap n = omega arith
 
 pub greatest_of : (f : List ℕ) → length f ≡ 8
     → max (max (get_or f 0 0) (max (get_or f 1 0) (max (get_or f 2 0) (get_or f 3 0))))
@@ -57,9 +58,6 @@ pub ruleset scalars = (label_same)
 pub padded : (n : ℕ) → (n + 3) / 4 * 4 ≡ n * 1 + gap n 4
 padded n = omega arith
 
-pub none : (p : ℕ) → 0 ≡ gap p 1
-none p = omega arith
-
 pub row_counted : (e : Encoding) (k : Kind) (c : Count) → IsPlain e → array_span e (row_of k c) ≡ array_counted e (row_of k c) c
 row_counted Xdr k c h = refl
 row_counted CdrBig k c h = refl
@@ -79,4 +77,4 @@ text_most CdrBig c n h other = refl
 text_most CdrLittle c n h other = refl
 text_most Mach c n h other = absurd h
 
-pub ruleset arrays = (padded, none, row_counted, text_counted_of, text_most)
+pub ruleset arrays = (padded, no_gap, row_counted, text_counted_of, text_most)

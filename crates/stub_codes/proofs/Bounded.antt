@@ -39,7 +39,8 @@ use Rattle.copy_inline.specs.Rowed.{row_or_loop, loop_rowed, by_type, rowed, cas
 use Rattle.copy_inline.proofs.RowCounts.{rowed-append, rowed-unensured, flat_rowed}
 use Rattle.hoist.proofs.Ways.{AreFrom, from-first, from-next, from-head, ty-field, at-field}
 use Rattle.hoist.proofs.Standing.{ValuesFrom, values-first, values-next, values-head}
-use Rattle.stub_codes.proofs.Eased.{eases, run_most}
+use Rattle.stub_codes.proofs.Eased.{eases}
+use Rattle.chunker.proofs.Moves.{at_most as run_most}
 
 -- ---- stores
 

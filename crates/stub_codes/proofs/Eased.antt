@@ -11,6 +11,7 @@ use Rattle.cast_stub.specs.Parts.{on_some, at, elements_in, length_in}
 use Rattle.cast_stub.specs.Steps.{Step, Room, Patched, Steps, both, over, if_present, Calls, steps, case_steps, align_steps, chunk_steps, row_room, copy_steps, swap_steps, wide_steps}
 use Rattle.cast_stub.proofs.Folding.{costs-append}
 use Rattle.chunker.proofs.Keeping.{met-append}
+use Rattle.chunker.proofs.Moves.{at_most}
 
 -- steps in the place of some: as many stores are met, and for so many moves there are so many and seven for each check
 pub record Eased (y : Steps) (n m : ℕ) (ss : List Step) : Type 0 where
@@ -110,12 +111,6 @@ eases_if : (t : Bool) (x x' y y' : Steps) (n m i j : ℕ) → Eases x x' n m →
 eases_if true x x' y y' n m i j f g = f
 eases_if false x x' y y' n m i j f g = g
 
--- a run is allowed seven moves at most
-pub run_most : (b : Block) → first_run 7 b ≤ 7
-run_most (align a r) = omega arith
-run_most (chunk s ps r) = omega arith
-run_most _ = omega arith
-
 first_bare : (b : Block) → first_run 7 b ≤ first_run 7 (unensured b)
 first_bare (align a r) = omega arith
 first_bare (chunk s ps r) = omega arith
@@ -134,7 +129,7 @@ module _ (c : Calls) (h : Head) (e : Begins) where
   eases_behind : (x : Steps) (r : Block) (v : Val) → Eases x (steps c h (unensured r) v) (7 + moves_after 7 e r v)
       (moves_after 7 e (unensured r) v) → Eases x (steps c h (unensured r) v) (moves_in 7 e r v) (moves_after 7 e (unensured r) v)
   eases_behind x r v f =
-      let most = run_most r in
+      let most = at_most r in
       eases_less x (steps c h (unensured r) v) (7 + moves_after 7 e r v) (moves_after 7 e (unensured r) v) (moves_in 7 e r v)
       (moves_after 7 e (unensured r) v) (omega (arith, most)) (omega arith) f
 

@@ -3,7 +3,7 @@
 -- Steps after the octets of a head, and the length of chunks, by induction on the steps and on the code
 mod Following
 -- * The heads of requests and of replies, and their code
-mod Leading
+pub mod Leading
 -- Elements of lists, by their places
 pub mod Places
 -- What comes back from an operation of a binding is what its unit has: a choice of the answer and the exceptions, by induction on the interfaces

@@ -9,7 +9,6 @@ use Rattle.mint.specs.Typed.{Each}
 use Rattle.mint.specs.Values.{Val, void, Vals, no_more, val, count, row_in}
 use Rattle.mint.proofs.Images.{octets_many}
 use Rattle.wire_def.specs.declared.head.Order.{Order}
-use Rattle.wire_def.specs.declared.head.Order.TheVariants.{Big, Little}
 use Rattle.wire_def.specs.Orders.{in_order}
 use Rattle.cast_stub.specs.Parts.{on_some, at, length_in}
 use Rattle.cast_stub.specs.Puts.{word, half_of, wrapped}
@@ -26,6 +25,7 @@ use Rattle.stub_cover.proofs.Quiet.{IsQuiet}
 use Rattle.stub_flat.proofs.PartsTyped.{IsOfNode}
 use Rattle.stub_cover.proofs.Lengths.{length_row, few, kind_known}
 use Rattle.stub_cover.proofs.Looping.{After, loop_leads}
+use Rattle.cast_stub.proofs.Patched.{four}
 
 -- ---- how many octets
 
@@ -45,14 +45,10 @@ swapped_long k (n ∷ ns) =
     let all = length-append (reverse (octets_of k n)) (swapped k ns) in
     omega (arith, first, rest, all)
 
-four_long : (o : Order) (n : ℕ) → length (in_order o 4 n) ≡ 4
-four_long Big n = refl
-four_long Little n = refl
-
 word_long : (o : Order) (z : ℤ) (os : List ℕ) → word 4 o z ≡ Some os → length os ≡ 4
 word_long o z os e =
     let m = some_of (on_some (half_of 4) (λ h. wrapped h z)) (λ (n : ℕ). Some (in_order o 4 n)) os e in
-    sym (ap length (some_same (in_order o 4 m.0) os m.2)) ∙ four_long o m.0
+    sym (ap length (some_same (in_order o 4 m.0) os m.2)) ∙ four o m.0
 
 wide_long : (o : Order) (ns : List ℤ) (os : List ℕ) → wide o ns ≡ Some os → length os ≡ length ns * 4
 wide_long o [] os e = sym (ap length (some_same [] os e))

@@ -123,12 +123,12 @@ few32 : (o : Order) (l : List ℕ) → AreOctets l → loaded o w32 l < 42949672
 few32 Big l oct = let fits = octet_at l oct in omega (arith, fits 0, fits 1, fits 2, fits 3)
 few32 Little l oct = let fits = octet_at l oct in omega (arith, fits 0, fits 1, fits 2, fits 3)
 
-octets_taken : (n : ℕ) (l : List ℕ) → AreOctets l → AreOctets (take n l)
+pub octets_taken : (n : ℕ) (l : List ℕ) → AreOctets l → AreOctets (take n l)
 octets_taken zero l h = tt
 octets_taken (suc n) [] h = tt
 octets_taken (suc n) (b ∷ l) h = (h.0, octets_taken n l h.1)
 
-allowed_alike : (b : Count) (n : ℕ) → n < 4294967296 → allows b n ≡ allowed b n
+pub allowed_alike : (b : Count) (n : ℕ) → n < 4294967296 → allows b n ≡ allowed b n
 allowed_alike (Exactly m) n lt = refl
 allowed_alike (AtMost m) n lt = ap (λ (g : Bool). g && nat_le n m) (lt-ltb n 4294967296 lt)
 allowed_alike Any n lt = lt-ltb n 4294967296 lt

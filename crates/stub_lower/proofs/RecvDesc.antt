@@ -21,6 +21,7 @@ use Rattle.stub_lower.proofs.RecvEncoded.{same_true}
 use Rattle.stub_lower.proofs.RecvItems.{word_is, word_read}
 use Rattle.stub_lower.proofs.UnitLaws.{Units, single, twice, units, elements_back, elements_are}
 use Rattle.wire_def.proofs.DescribedGrammar.{name_small, bits_small}
+use Rattle.stub_lower.proofs.RecvCdrArrays.{allowed_alike}
 
 -- the length of which so many units are the multiple, and that many units again
 length_once : (m : ℕ) → length_of 1 0 m ≡ Some m
@@ -61,11 +62,6 @@ few_elements s k lt = either (units s) where
   either : Units s → elements_in s k < 4294967296
   either (single u w count) = let is = count k in omega (arith, lt, is)
   either (twice u w count) = let is = count k in omega (arith, lt, is)
-
-allowed_alike : (b : Count) (n : ℕ) → n < 4294967296 → allows b n ≡ allowed b n
-allowed_alike (Exactly m) n lt = refl
-allowed_alike (AtMost m) n lt = ap (λ (g : Bool). g && nat_le n m) (lt-ltb n 4294967296 lt)
-allowed_alike Any n lt = lt-ltb n 4294967296 lt
 
 -- ---- by what the code tests
 

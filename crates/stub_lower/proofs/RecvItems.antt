@@ -1,5 +1,5 @@
 -- What an item of a Mach message reads.
-use Rattle.std.proofs.Common.{◌≡◌, ℕ, zero, suc, ◌+◌, ◌%◌, ◌<◌, ◌≤◌, ℤ, List, [], ◌∷◌, length, take, drop, max, Option, Some, None, refl, sym, ap, ◌∙◌, arith, Bool, true, false, ◌&&◌, if◌then◌else◌}
+use Rattle.std.proofs.Common.{◌≡◌, ℕ, ◌+◌, ◌%◌, ◌<◌, ◌≤◌, ℤ, List, [], ◌∷◌, length, take, drop, max, Option, Some, None, refl, sym, ap, ◌∙◌, arith, Bool, true, false, ◌&&◌, if◌then◌else◌}
 use Rattle.std.specs.Prelude.{nat_lt, nat_le, nat_eq}
 use Rattle.std.specs.Int.{Width, w32, byte_len, from_le_bytes}
 use Rattle.std.proofs.lemmas.Bool.{le-ltb, ltb-true, ltb-false, eq-eqb, eqb-true}
@@ -32,6 +32,7 @@ use Rattle.stub_lower.proofs.Words.{width_same}
 use Rattle.stub_lower.proofs.Agreeing.{Agrees, Same, agrees-ends, SameEnds}
 use Rattle.stub_lower.proofs.RecvEncoded.{tested_place, passed_place, pass_tested, le_true, octets_dropped, word_tested, width_is, scalar_read, Reads, taken, Takes, LonesRead}
 use Rattle.wire_def.proofs.Sent.{word_below}
+use Rattle.stub_lower.proofs.RecvCdrArrays.{octets_taken}
 
 -- ---- octets that must be these
 
@@ -52,11 +53,6 @@ same_so (x ∷ a) (y ∷ b) h = ap (λ (z : ℕ). z ∷ a) (eqb-true x y (left (
       right : (g h : Bool) → (g && h) ≡ true → h ≡ true
       right true h e = e
       right false h e = absurd cc
-
-octets_taken : (n : ℕ) (l : List ℕ) → AreOctets l → AreOctets (take n l)
-octets_taken zero l h = tt
-octets_taken (suc n) [] h = tt
-octets_taken (suc n) (b ∷ l) h = (h.0, octets_taken n l h.1)
 
 -- the first four octets are these of a word exactly where they are its number
 pub word_is : (w : ℕ) (o : List ℕ) → w < 4294967296 → AreOctets o → 4 ≤ length o

@@ -4,7 +4,7 @@ use Rattle.mint.specs.declared.node.Node.{Node}
 use Rattle.mint.specs.Blank.{depth}
 use Rattle.mint.specs.Types.{Array, Ty, type_at, unfolded, level}
 use Rattle.mint.proofs.Unfolding.{type_at-level}
-use Rattle.mint.proofs.Measuring.{sound_taken}
+use Rattle.mint.proofs.Measuring.{sound_taken, found_below as in_list}
 use Rattle.wire_def.specs.declared.encoding.Encoding.{Encoding}
 use Rattle.wire_def.specs.declared.encoding.Encoding.TheVariants.{Xdr, CdrBig, CdrLittle, Mach}
 use Rattle.wire_def.specs.Grammar.{AreOctets}
@@ -22,7 +22,7 @@ use Rattle.cast_stub.specs.Layouts.{layout_of}
 use Rattle.stub_lower.specs.RecvCodes.{array_code, node_code}
 use Rattle.stub_lower.specs.RecvLowered.{CodesReceive, CallsReceive}
 use Rattle.stub_lower.proofs.Tables as tables
-use Rattle.stub_lower.proofs.Tables.{found, in_list, depth_some, below, sound, sub_is, code_of, codes_go}
+use Rattle.stub_lower.proofs.Tables.{found, depth_some, below, sound, sub_is, code_of, codes_go}
 use Rattle.stub_lower.proofs.Agreeing.{Agrees, Settles, agrees-settled}
 use Rattle.stub_lower.proofs.RecvEncoded.{LonesRead, xdr_scalar}
 use Rattle.stub_lower.proofs.RecvArrays.{ArraysRead, xdr_array}

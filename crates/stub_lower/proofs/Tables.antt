@@ -8,6 +8,7 @@ use Rattle.mint.specs.Blank.{depth}
 use Rattle.mint.specs.Sound.{IsSound}
 use Rattle.mint.specs.Types.{Ty, group_type, items_type, choice_type, maybe_type, type_at, unfolded, level, HasChildrenBelow, IsTable}
 use Rattle.mint.proofs.Unfolding.{type_at-level}
+use Rattle.mint.proofs.Measuring.{found_below}
 
 -- ---- nodes
 
@@ -43,11 +44,6 @@ pub get-map : {A B : Type 0} (f : A → B) (xs : List A) (k : ℕ) → option_ma
 get-map f [] k = refl
 get-map f (x ∷ xs) zero = refl
 get-map f (x ∷ xs) (suc k) = get-map f xs k
-
-pub in_list : (nodes : List Node) (k : ℕ) (m : Node) → slice_get nodes k ≡ Some m → k < length nodes
-in_list [] k m e = absurd cc
-in_list (x ∷ nodes) zero m e = omega arith
-in_list (x ∷ nodes) (suc k) m e = let h = in_list nodes k m e in omega arith
 
 pub record Found (nodes : List Node) (i : ℕ) : Type 0 where
   pub node : Node
@@ -110,10 +106,10 @@ module _ {O B : Type 0} (seen : List O → B) (code : Node → B) (nodes : List 
   all_codes = whole.codes ∙ ap (map code) (take_all (length nodes) nodes (omega arith))
 
   pub below : IsTable nodes
-  below k m is = (whole.known k m (in_list nodes k m is) is).0
+  below k m is = (whole.known k m (found_below nodes k m is) is).0
 
   pub sound : (k : ℕ) (m : Node) → slice_get nodes k ≡ Some m → IsSound (type_at nodes k)
-  sound k m is = (whole.known k m (in_list nodes k m is) is).1
+  sound k m is = (whole.known k m (found_below nodes k m is) is).1
 
   pub sub_is : (k : ℕ) (m : Node) → slice_get nodes k ≡ Some m → option_map seen (slice_get subs k) ≡ Some (code m)
   sub_is k m is = get-map seen subs k ∙ ap (λ (l : List B). slice_get l k) all_codes ∙ sym (get-map code nodes k) ∙ ap (option_map code) is
@@ -134,7 +130,7 @@ module _ {O B : Type 0} (seen : List O → B) (code : Node → B) (nodes : List 
     node_goes (suc n) k m lt is =
         subst (λ (t : Ty). By t k (code m)) (sym (type_at-level nodes k m below is))
         (own k
-        (λ (i : ℕ) i_lt. let f = found nodes i (omega (arith, i_lt, in_list nodes k m is)) in
+        (λ (i : ℕ) i_lt. let f = found nodes i (omega (arith, i_lt, found_below nodes k m is)) in
         (code f.node, sub_is i f.node f.is, node_goes n i f.node (omega (arith, i_lt, lt)) f.is))
         m (below k m is))
 

@@ -6,7 +6,7 @@ use Rattle.mint.specs.Types.{Array, Ty, type_at, unfolded, level}
 use Rattle.mint.specs.Typed.{IsOf}
 use Rattle.mint.specs.Values.{Val}
 use Rattle.mint.proofs.Unfolding.{type_at-level}
-use Rattle.mint.proofs.Measuring.{sound_taken}
+use Rattle.mint.proofs.Measuring.{sound_taken, found_below as in_list}
 use Rattle.wire_def.specs.declared.encoding.Encoding.{Encoding}
 use Rattle.wire_def.specs.declared.encoding.Encoding.TheVariants.{Xdr, CdrBig, CdrLittle, Mach}
 use Rattle.wire_def.specs.declared.head.Head.{Head}
@@ -26,7 +26,7 @@ use Rattle.stub_lower.proofs.Encoded.{ScalarsSend, ArraysSend, xdr_scalar, xdr_a
 use Rattle.stub_lower.proofs.Cdr.{big_scalar, big_array, little_scalar, little_array}
 use Rattle.stub_lower.proofs.Mach.{mach_scalar, mach_array}
 use Rattle.stub_lower.proofs.Tables as tables
-use Rattle.stub_lower.proofs.Tables.{found, in_list, depth_some, below, sound, sub_is, code_of, codes_go}
+use Rattle.stub_lower.proofs.Tables.{found, depth_some, below, sound, sub_is, code_of, codes_go}
 use Rattle.stub_lower.proofs.Following.{turned, loops, node-follows}
 use Rattle.stub_lower.proofs.Sending.{Is, node-sends}
 use Rattle.stub_lower.proofs.Writing.{Sends}

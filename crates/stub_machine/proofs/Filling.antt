@@ -280,7 +280,7 @@ chunk-runs h v ps size s r =
     let there : IsThere (filled size ps h v) = subst IsThere (sym f.1) tt in
     (there_then (put_all h v ps (replicate size None)) full there, there, omega (arith, f.2, length-filled h v ps size f.0 f.1))
 
-appended_at : (b : Bool) (t u : State) → b ≡ true → t ≡ u → on_some (if b then Some t else None) (ran []) ≡ Some u
+pub appended_at : (b : Bool) (t u : State) → b ≡ true → t ≡ u → on_some (if b then Some t else None) (ran []) ≡ Some u
 appended_at true t u e same = ap Some same
 appended_at false t u e same = absurd cc
 

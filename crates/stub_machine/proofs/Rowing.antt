@@ -23,16 +23,13 @@ use Rattle.cast_stub.specs.Steps.{Step, Widened, Copied, swapped, wide}
 use Rattle.stub_machine.specs.Run.{State, state_of, stored_times, appended, Runs, Ends, ran}
 use Rattle.stub_machine.specs.Putting.{octets_in, Writes}
 use Rattle.stub_machine.proofs.Rooms.{state}
+use Rattle.stub_machine.proofs.Filling.{appended_at}
 
 -- ---- octets that are appended
 
 room_if : (b : Bool) (n m : ℕ) (t : State) → nat_le n m ≡ b → IsThere (on_some (if b then Some t else None) (ran [])) → n ≤ m
 room_if true n m t e r = leb-true n m e
 room_if false n m t e r = absurd r
-
-ends_if : (b : Bool) (t u : State) → b ≡ true → t ≡ u → on_some (if b then Some t else None) (ran []) ≡ Some u
-ends_if true t u e same = ap Some same
-ends_if false t u e same = absurd cc
 
 state_same : (d d' : List ℕ) (a a' : ℕ) (t t' u u' : Tally) → d ≡ d' → a ≡ a' → t ≡ t' → u ≡ u' → state d a t u ≡ state d' a' t' u'
 state_same d d' a a' t t' u u' p q r s = rw (p, q, r, s) refl
@@ -45,7 +42,7 @@ appended_ends : (o : List ℕ) (cost : Tally → Tally) (b c : Buf) → length o
     → on_some (appended o cost (state_of b)) (ran []) ≡ Some (state_of c)
 appended_ends o cost b c fits d f t u =
     let left : length c.front ≡ length b.front - length o = ap length f ∙ length-drop (length o) b.front in
-    ends_if (nat_le (length o) (length b.front)) (state (b.done ++ o) (length b.front - length o) (cost b.tally) (cost b.spent))
+    appended_at (nat_le (length o) (length b.front)) (state (b.done ++ o) (length b.front - length o) (cost b.tally) (cost b.spent))
     (state_of c) (le-leb (length o) (length b.front) fits) (state_same _ _ _ _ _ _ _ _ (sym d) (sym left) (sym t) (sym u))
 
 -- ---- a row as it is, or with each number's octets reversed

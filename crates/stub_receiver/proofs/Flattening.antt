@@ -340,7 +340,7 @@ module _ (nodes : List Node) (wanted size : ℕ) (gs : List Get) (id : ℕ) (v w
 
 -- ---- a code of a need and a take
 
-finished : (c : Callees) (r : Run Draft) → then_run r (fill c finish) ≡ r
+pub finished : (c : Callees) (r : Run Draft) → then_run r (fill c finish) ≡ r
 finished c (gives d s) = refl
 finished c refuses = refl
 finished c strays = refl

@@ -52,6 +52,8 @@ use Rattle.stub_receiver.specs.Ran.{Ran, Gave}
 use Rattle.cast_stub.specs.Runs.{Holds}
 use Rattle.stub_receiver.proofs.Drafting.{drawn-Tagged, drawn-Done, no_node, drawing}
 use Rattle.stub_receiver.proofs.Within.{first_holds, within_there, within_holds, at_gives, at_halts}
+use Rattle.stub_receiver.proofs.Flattening.{finished}
+use Rattle.stub_receiver.proofs.Putting.{holds_in}
 
 pub ruleset running = (drawing, no_node, pieces)
 
@@ -169,17 +171,12 @@ pub switch_acted : (c : Callees) (o : RecvOp) (p : List ℕ) (cases : List (ℤ 
     → acted c (op_seen o finish) ≡ fill_arm (fill_case c (cases_seen cases other))
 switch_acted c o p cases other is = ap (λ (x : Piece). acted c (x finish)) (ap op_seen is ∙ seen-Switch p cases other)
 
-alone : (c : Callees) (x : Run Draft) → then_run x (fill c finish) ≡ x
-alone c (gives y t) = refl
-alone c refuses = refl
-alone c strays = refl
-
 module _ (c : Callees) (o : RecvOp) (p q : List ℕ) (d : Draft) (s : Place) (at : part_path (op_seen o finish) ≡ Some p) (same : q ≡ p) where
   abbrev pub f : Filler
   f = acted c (op_seen o finish)
 
   whole : fill c (op_seen o finish) d s ≡ within q f d s
-  whole = op_acts c o p at d s ∙ alone c (within p f d s) ∙ ap (λ (r : List ℕ). within r f d s) (sym same)
+  whole = op_acts c o p at d s ∙ finished c (within p f d s) ∙ ap (λ (r : List ℕ). within r f d s) (sym same)
 
   pub part_there : Holds (fill c (op_seen o finish) d s) → IsThere (part q d)
   part_there h = within_there f s q d (subst Holds whole h)
@@ -211,15 +208,10 @@ list_given ns f T n vs s t ran =
     ap (map_run (λ ws. done (values.items (vals_of ws)))) ran
     ∙ ap (λ (d : Draft). gives d t) (ap done (sym (seen-Items vs)) ∙ sym (drawn-Done ns (value.Items vs)))
 
-held_list : {A B : Type 0} (h : A → B) (z : Run A) → Holds (map_run h z) → Holds z
-held_list h (gives vs t) k = tt
-held_list h refuses k = tt
-held_list h strays k = k
-
 -- values of a node that a loop goes over
 module _ (ns : List Node) (f : Filler) (d : Draft) (item n : ℕ) (s : Place) (over : GoesOver ns (elements.Values item n) d) where
   pub values_hold : Holds (fill_each f d s) → Holds (runs (λ u. settled (f (fresh (type_at ns item)) u)) n s)
-  values_hold h = held_list (λ vs. done (values.items (vals_of vs))) (runs (λ u. settled (f (fresh (type_at ns item)) u)) n s)
+  values_hold h = holds_in (λ vs. done (values.items (vals_of vs))) (runs (λ u. settled (f (fresh (type_at ns item)) u)) n s)
       (subst Holds (over.0 f s) h)
 
   pub values_given : (vs : List Value) (t : Place) → runs (λ u. settled (f (fresh (type_at ns item)) u)) n s ≡ gives (map seen vs) t

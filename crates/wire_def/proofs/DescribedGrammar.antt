@@ -49,7 +49,7 @@ unfolding read_first FirstSpells FirstStops
 first_is c s = tested_are (has_form c s) BadItem (λ p. p) (word_is Mach 1 w32 desc_wide)
 
 -- a choice of two
-chosen : {E A : Type 0} (b : Bool) {r r' : Reader E A} {S S' : Spelling A} {F F' : Stopping E} → IsGrammar r S F → IsGrammar r' S' F'
+pub chosen : {E A : Type 0} (b : Bool) {r r' : Reader E A} {S S' : Spelling A} {F F' : Stopping E} → IsGrammar r S F → IsGrammar r' S' F'
     → IsGrammar (λ p o. cond b (r p o) (r' p o)) (λ p o x. MatchBool b (S p o x) (S' p o x))
     (λ p o k at. MatchBool b (F p o k at) (F' p o k at))
 chosen true g g' = g
@@ -231,7 +231,7 @@ many_of s n =
     let high = high_part (unit_name s) (unit_bits s) (n * units_of s) (omega (arith, name_small s)) (omega (arith, bits_small s)) in
     rw high (elements_of s n)
 
-no_gap : (p : ℕ) → 0 ≡ gap p 1
+pub no_gap : (p : ℕ) → 0 ≡ gap p 1
 no_gap p = omega arith
 
 form_long : (c : Count) (s : Scalar) (p d : ℕ) → is_long c s ≡ true → d < 2 ^ 64

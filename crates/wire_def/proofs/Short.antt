@@ -24,7 +24,7 @@ width_most _ is32 = lit≤ tt
 width_most _ is64 = lit≤ tt
 
 -- the gap before a number has at most 7 octets
-gap_most : (w : Width) → IsOwn w → (p : ℕ) → gap p (byte_len w) ≤ 7
+pub gap_most : (w : Width) → IsOwn w → (p : ℕ) → gap p (byte_len w) ≤ 7
 gap_most _ is8 p = omega arith
 gap_most _ is16 p = omega arith
 gap_most _ is32 p = omega arith

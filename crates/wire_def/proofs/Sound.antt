@@ -11,6 +11,7 @@ use Rattle.mint.specs.Types.{Array, text, row_of, Ty, void_type, scalar_type, ar
 use Rattle.mint.specs.Sound.{is_unfit, is_zero, is_empty, is_mislabelled, level_refusal, IsSound, AreSound, ArmsSound}
 use Rattle.wire_def.specs.Arrays.{count_of}
 use Rattle.wire_def.specs.Hollow.{is_hollow, are_hollow}
+use Rattle.mint.proofs.Measuring.{sound_level}
 
 -- a count that is not exactly 0
 abbrev pub IsCount : Count → Type 0
@@ -49,15 +50,6 @@ none_refused false false false false e v w x y z h = (refl, refl)
 level_passes : (t : Ty) → level_refusal t ≡ None → (is_empty t ≡ false) × (nat_lt 32 (depth t) ≡ false)
 level_passes t h = none_refused (is_unfit t) (is_empty t) (is_mislabelled t) (nat_lt 32 (depth t)) (nat_lt 1048576 (weight (blank t))) _ _
     _ _ _ h
-
-own : (t : Ty) → IsSound t → level_refusal t ≡ None
-own void_type h = h
-own (scalar_type s) h = h
-own (array_type a) h = h
-own (group_type ts) h = h.0
-own (items_type c t) h = h.0
-own (choice_type s arms) h = h.0
-own (maybe_type t) h = h.0
 
 neither : (a b : Bool) → a || b ≡ false → (a ≡ false) × (b ≡ false)
 neither true b h = absurd cc
@@ -118,4 +110,4 @@ mutual
   arms_room (arm_type m t arms) h = (room t h.0, arms_room arms h.1)
 
 pub shallow : (t : Ty) → IsSound t → depth t ≤ 32
-shallow t h = ltb-false 32 (depth t) (level_passes t (own t h)).1
+shallow t h = ltb-false 32 (depth t) (level_passes t (sound_level t h)).1

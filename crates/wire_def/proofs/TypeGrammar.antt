@@ -1,7 +1,6 @@
 -- Every type is a grammar, by mutual induction on types, fields and arms.
-use Rattle.std.proofs.Common.{◌≡◌, ◌⊎◌, inl, inr, ℕ, zero, suc, ◌+◌, ℤ, pos, negsuc, List, [], ◌∷◌, ◌++◌, length, Bool, true, false, cond, refl, sym, ap, ◌∙◌, ◌↔◌, arith}
+use Rattle.std.proofs.Common.{◌≡◌, ◌⊎◌, inl, inr, ℕ, zero, suc, ◌+◌, ℤ, pos, negsuc, List, [], ◌∷◌, ◌++◌, length, refl, sym, ap, ◌∙◌, ◌↔◌, arith}
 use Rattle.std.proofs.lemmas.List.{append-nil}
-use Rattle.std.specs.Prelude.{MatchBool}
 use Rattle.std.specs.Ordering.{int_eq}
 use Rattle.std.proofs.lemmas.Bool.{ltb-true}
 use Rattle.mint.specs.declared.kind.Count.{Count}
@@ -24,6 +23,8 @@ use Rattle.wire_def.specs.Reading.{read, read_fields, read_arm, read_after}
 use Rattle.wire_def.proofs.Grammars.{done, mapped, both_are, times_are, reshaped}
 use Rattle.wire_def.proofs.ArrayGrammar.{count_is, array_is, times_length}
 use Rattle.wire_def.proofs.LoneGrammar.{lone_is, pass_is}
+use Rattle.wire_def.proofs.DescribedGrammar.{chosen}
+use Rattle.mint.proofs.Fitting.{count-vals_of}
 
 list_of-vals_of : (xs : List Val) → list_of (vals_of xs) ≡ xs
 list_of-vals_of [] = refl
@@ -32,17 +33,6 @@ list_of-vals_of (x ∷ xs) = ap (λ z. x ∷ z) (list_of-vals_of xs)
 length-list_of : (vs : Vals) → length (list_of vs) ≡ count vs
 length-list_of no_more = refl
 length-list_of (val v vs) = ap suc (length-list_of vs)
-
-count-vals_of : (xs : List Val) → count (vals_of xs) ≡ length xs
-count-vals_of [] = refl
-count-vals_of (x ∷ xs) = ap suc (count-vals_of xs)
-
--- a choice of two
-pub chosen : {E A : Type 0} (b : Bool) {r r' : Reader E A} {S S' : Spelling A} {F F' : Stopping E} → IsGrammar r S F → IsGrammar r' S' F'
-    → IsGrammar (λ p o. cond b (r p o) (r' p o)) (λ p o x. MatchBool b (S p o x) (S' p o x))
-    (λ p o k at. MatchBool b (F p o k at) (F' p o k at))
-chosen true g g' = g
-chosen false g g' = g'
 
 -- ---- lists
 

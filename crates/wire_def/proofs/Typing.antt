@@ -23,7 +23,7 @@ use Rattle.wire_def.proofs.Grammars.{octets_after, octets_before}
 use Rattle.wire_def.proofs.DescribedGrammar.{allows, described_typed}
 use Rattle.wire_def.proofs.Sent.{is_element}
 
-match_both : (b : Bool) {P Q R S : Type 0} → MatchBool b P Q → (P → R) → (Q → S) → MatchBool b R S
+pub match_both : (b : Bool) {P Q R S : Type 0} → MatchBool b P Q → (P → R) → (Q → S) → MatchBool b R S
 match_both true h f g = f h
 match_both false h f g = g h
 

@@ -2,9 +2,10 @@ use Rattle.std.proofs.Common.{◌≡◌, [], List, option_map, arith}
 use Rattle.cast_stub.specs.declared.recv.RecvOp.{RecvOp}
 use Rattle.cast_stub.specs.RecvBlock.{op_seen, code_seen}
 use Rattle.chunker.specs.RecvChunked.{chunked}
-use Rattle.chunker.proofs.RecvMaking.{all_bodies, last_some, last_none, run_ended, other_takes, switch_made, if_ok}
+use Rattle.chunker.proofs.RecvMaking.{all_bodies, last_some, last_none, run_ended, other_takes, switch_made}
 use Rattle.chunker.proofs.recv_pass.+chunk_recv.Goals.{put_op-in-Some-last+in_ok-chunk_ops-in-Some-last, put_op-in-None}
 use Rattle.chunker.proofs.recv_pass.+chunk_recv.Goals as goal
+use Rattle.chunker.proofs.Making.{if_ok}
 
 pub chunk_ops-returns : goal.chunk_ops-returns
 chunk_ops-returns t c =

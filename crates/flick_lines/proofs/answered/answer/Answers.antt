@@ -1,9 +1,9 @@
 use Rattle.std.proofs.Common.{◌≡◌, refl}
 use Rattle.raw_buf.proofs.Standing.{none_fell-refl}
 use Rattle.flick_lines.specs.declared.verb.Verb.TheVariants as verbs
-use Rattle.flick_lines.proofs.Options.{on-any}
 use Rattle.flick_lines.proofs.Sending.{verb_sends}
 use Rattle.flick_lines.proofs.answered.answer.Goals as goal
+use Rattle.flick_engine.proofs.Replying.{any_ok as on-any}
 
 pub returns-in-Marshal-clause-sends : goal.returns-in-Marshal-clause-sends
 returns-in-Marshal-clause-sends c =

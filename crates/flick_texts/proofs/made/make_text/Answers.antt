@@ -1,9 +1,9 @@
 use Rattle.std.proofs.Common.{length, sym, ap, ◌∙◌}
 use Rattle.pres.specs.Bindings.{Binding}
 use Rattle.flick_texts.proofs.Making.{line_same, some_messages}
-use Rattle.flick_lines.proofs.Options.{on-any}
 use Rattle.flick_texts.proofs.Spending.{none_sent, so_many_sent}
 use Rattle.flick_texts.proofs.made.make_text.Goals as goal
+use Rattle.flick_engine.proofs.Replying.{any_ok as on-any}
 
 pub returns-clause-value : goal.returns-clause-value
 returns-clause-value c =

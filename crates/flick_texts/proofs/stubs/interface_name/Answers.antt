@@ -1,7 +1,7 @@
 use Rattle.std.proofs.Common.{◌∙◌, length, sym}
 use Rattle.std.proofs.lemmas.Bool.{ltb-true}
-use Rattle.flick_texts.proofs.Listing.{interface_named}
 use Rattle.flick_texts.proofs.stubs.interface_name.Goals as goal
+use Rattle.json_shape.proofs.Sources.{interface_named}
 
 pub returns-in-Some : goal.returns-in-Some
 returns-in-Some c =

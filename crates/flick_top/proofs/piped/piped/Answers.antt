@@ -3,13 +3,13 @@ use Rattle.std.specs.Prelude.{IfOk}
 use Rattle.kit_base.specs.declared.errors.NoMemory.{NoMemory}
 use Rattle.pres.specs.Bindings.{Binding}
 use Rattle.flick_lines.specs.declared.verb.Verb.TheVariants.{Marshal}
-use Rattle.flick_lines.proofs.Options.{on-any}
 use Rattle.flick_lines.proofs.Sending.{verb_done}
 use Rattle.flick_top.specs.declared.answered.Answered.{Answered}
 use Rattle.flick_top.specs.Answer.{IsPiped}
 use Rattle.flick_top.proofs.Piping.{piped-none, piped-some}
 use Rattle.flick_top.proofs.piped.piped.Goals.{in-Some, in-None+in_ok-framed-in-None}
 use Rattle.flick_top.proofs.piped.piped.Goals as goal
+use Rattle.flick_engine.proofs.Replying.{any_ok as on-any}
 
 pub returns-clause-value : goal.returns-clause-value
 returns-clause-value c =

@@ -2,8 +2,8 @@ use Rattle.std.proofs.Common.{◌∙◌, ap, subst}
 use Rattle.pres.specs.Bindings.{Binding}
 use Rattle.back_cdr.specs.Targets.{IsCdr}
 use Rattle.flick_engine.proofs.Picking.{raise_over}
-use Rattle.flick_engine.proofs.RepliesOfBacks.{either_cdr}
 use Rattle.flick_engine.proofs.engine.Engine.raise_with.Goals as goal
+use Rattle.stub_codes.proofs.Leading.{either_cdr}
 
 pub returns-in-CdrBig : goal.returns-in-CdrBig
 returns-in-CdrBig c =

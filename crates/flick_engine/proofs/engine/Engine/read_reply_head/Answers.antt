@@ -5,8 +5,9 @@ use Rattle.back_cdr.specs.Targets.{IsCdr}
 use Rattle.back_mach.specs.Leads.{reply_id as mach_id}
 use Rattle.back_mach.specs.Routines.{routine_of}
 use Rattle.back_mach.specs.declared.routines.Routine.{Routine}
-use Rattle.flick_engine.proofs.RepliesOfBacks.{either_cdr, xdr_read, xdr_faults, giop_read, giop_faults, mach_read, mach_faults}
+use Rattle.flick_engine.proofs.RepliesOfBacks.{xdr_read, xdr_faults, giop_read, giop_faults, mach_read, mach_faults}
 use Rattle.flick_engine.proofs.engine.Engine.read_reply_head.Goals as goal
+use Rattle.stub_codes.proofs.Leading.{either_cdr}
 
 pub returns-in-Xdr-clause-begins : goal.returns-in-Xdr-clause-begins
 returns-in-Xdr-clause-begins c =
