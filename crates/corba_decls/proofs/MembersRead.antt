@@ -35,7 +35,7 @@ use Rattle.std.proofs.lemmas.Bool.{or_right, or_left}
 apart_bracket : Apart (mark_is (codes "[")) is_joint
 apart_bracket k e = let is = mark_named (codes "[") k e in rw is refl
 
-apart_comma : Apart (mark_is (codes ",")) is_joint
+pub apart_comma : Apart (mark_is (codes ",")) is_joint
 apart_comma k e = let is = mark_named (codes ",") k e in rw is refl
 
 pub apart_semicolon : Apart (mark_is (codes ";")) is_joint
@@ -52,6 +52,10 @@ leads_type_of (suc n) (c ∷ cs) b ks s = let x =
 
 pub leads_type : (n : ℕ) → Leads (whole n) (λ k. word_is (codes "sequence") k || (word_is (codes "string") k || is_plain 0 k))
 leads_type n v ks s = leads_type_of n v.0 v.1 ks s
+
+-- a type may come before an identifier that no expression goes on with
+pub after_name : (i : Identifier) (f g : List Token) → identifier i (kinds f) → begins_with is_joint g ≡ false → Closes (f ++ g)
+after_name i f g s j = let t = one_kind f (K.Name s.0) s.2.0 in let name = s.2.1 in rw (t.1, t.2, name, j) refl
 
 module _ (n : ℕ) where
   pub dimension_is : IsGrammar (dimension_at n) (dimension n) Any
@@ -86,9 +90,6 @@ module _ (n : ℕ) where
   leads_declarator d ks s = leads_both (each (dimension n)) leads_identifier (d.name, d.dimensions) ks s
 
   -- ---- what follows a type
-
-  after_name : (i : Identifier) (f g : List Token) → identifier i (kinds f) → begins_with is_joint g ≡ false → Closes (f ++ g)
-  after_name i f g s j = let t = one_kind f (K.Name s.0) s.2.0 in let name = s.2.1 in rw (t.1, t.2, name, j) refl
 
   dimensions_end : (ds : List Dimension) (f rest : List Token) → each (dimension n) ds (kinds f) → begins_with is_joint rest ≡ false
       → begins_with is_joint (f ++ rest) ≡ false

@@ -1,14 +1,12 @@
 -- Attributes: what is read is what is spelled.
-use Rattle.std.proofs.Common.{◌≡◌, ℕ, zero, suc, List, [], ◌∷◌, ◌++◌, Option, true, false, refl, sym, ap, subst, ◌∙◌, append_assoc}
+use Rattle.std.proofs.Common.{◌≡◌, ℕ, List, [], ◌∷◌, ◌++◌, Option, false, refl, sym, ap, subst, ◌∙◌, append_assoc}
 use Rattle.std.specs.Prelude.{codes}
 use Rattle.idl_lex.specs.declared.kinds.Token.{Token}
-use Rattle.idl_lex.specs.declared.kinds.TokenKind.{TokenKind}
-use Rattle.idl_lex.specs.declared.kinds.TokenKind.TheVariants as K
 use Rattle.idl_read.specs.Reading.{mark_is, word_is, begins_with}
 use Rattle.idl_read.specs.Grammar.{Text, mark, word, ◌&◌, each, joined, kinds, IsGrammar, Leads}
 use Rattle.idl_read.proofs.Grammars.{mapped_is, both_is, parted, one_tree}
-use Rattle.idl_read.proofs.Leaves.{word_reads, mark_named, leads_word, one_kind, Apart, apart_word, leads_mark, leads_both, begins_not}
-use Rattle.idl_read.proofs.Productions.{weaker, after_is, leads_after, leads_when}
+use Rattle.idl_read.proofs.Leaves.{word_reads, leads_word, apart_word, leads_mark, leads_both, begins_not}
+use Rattle.idl_read.proofs.Productions.{weaker, after_is, leads_after, leads_when, word_flag_reads}
 use Rattle.idl_read.proofs.Lists.{joined_is}
 use Rattle.idl_exprs.specs.Trees.{Tree}
 use Rattle.idl_exprs.specs.declared.tree.Identifier.{Identifier}
@@ -16,34 +14,12 @@ use Rattle.idl_exprs.specs.Spelling.{identifier}
 use Rattle.idl_exprs.specs.Readers.{is_joint}
 use Rattle.idl_exprs.proofs.LeavesRead.{identifier_is}
 use Rattle.corba_decls.specs.declared.type_tree.Base.{Base}
-use Rattle.corba_decls.specs.TypeSpelling.{type}
-use Rattle.corba_decls.proofs.BasesRead.{Closes, leads_base}
-use Rattle.corba_decls.proofs.SequencesRead.{type_is, is_type}
+use Rattle.corba_decls.proofs.BasesRead.{Closes}
+use Rattle.corba_decls.proofs.SequencesRead.{type_is}
 use Rattle.corba_syntax.specs.declared.operation_tree.Attribute.{Attribute}
 use Rattle.corba_syntax.specs.OperationSpelling.{type_text, attribute}
 use Rattle.corba_syntax.specs.OperationReaders.{is_attribute, attribute_of, attribute_at}
-use Rattle.corba_syntax.proofs.PartsRead.{word_flag_reads}
-use Rattle.std.proofs.lemmas.Bool.{or_right, or_left}
-
--- ---- what a type begins with, and what follows it
-
-leads_type_of : (n : ℕ) (bounds : List (Option Tree)) (b : Base) (ks : List TokenKind) → type n bounds b false ks
-    → (k : TokenKind) × (more : List TokenKind) × (ks ≡ k ∷ more) × (is_type k ≡ true)
-leads_type_of zero bounds b ks s = absurd s
-leads_type_of (suc n) [] b ks s = let x =
-    leads_base (suc n) (([], b), false) ks (refl, s) in (x.0, x.1, x.2, or_right (word_is (codes "sequence") x.0) _ x.3)
-leads_type_of (suc n) (c ∷ cs) b ks s = let x =
-    leads_word (codes "sequence") tt s.0 s.3 in (x.0, x.1 ++ s.1, s.2 ∙ ap (λ z. z ++ s.1) x.2, or_left _ _ x.3)
-
-pub leads_type : (n : ℕ) → Leads (type_text n) is_type
-leads_type n v ks s = leads_type_of n v.0 v.1 ks s
-
--- a type may come before an identifier that no expression goes on with
-pub after_name : (i : Identifier) (f g : List Token) → identifier i (kinds f) → begins_with is_joint g ≡ false → Closes (f ++ g)
-after_name i f g s j = let t = one_kind f (K.Name s.0) s.2.0 in let name = s.2.1 in rw (t.1, t.2, name, j) refl
-
-pub apart_comma : Apart (mark_is (codes ",")) is_joint
-apart_comma k e = let is = mark_named (codes ",") k e in rw is refl
+use Rattle.corba_decls.proofs.MembersRead.{after_name, apart_comma}
 
 -- ---- attributes
 

@@ -1,13 +1,12 @@
 -- Definitions: what is read is what is spelled, by induction on the levels.
-use Rattle.std.proofs.Common.{◌≡◌, ◌⊎◌, inl, inr, ℕ, zero, suc, List, ◌++◌, Bool, false, ◌||◌, refl, sym, subst, ◌∙◌}
+use Rattle.std.proofs.Common.{◌≡◌, ◌⊎◌, inl, inr, ℕ, zero, suc, List, Bool, ◌||◌, refl, sym, subst, ◌∙◌}
 use Rattle.std.specs.Prelude.{codes}
-use Rattle.idl_lex.specs.declared.kinds.Token.{Token}
 use Rattle.idl_lex.specs.declared.kinds.TokenKind.{TokenKind}
-use Rattle.idl_read.specs.Reading.{mark_is, word_is, begins_with}
-use Rattle.idl_read.specs.Grammar.{Text, word, mark, ◌&◌, one_of, each, kinds, IsGrammar, Leads, Any}
+use Rattle.idl_read.specs.Reading.{word_is, begins_with}
+use Rattle.idl_read.specs.Grammar.{Text, word, mark, ◌&◌, one_of, each, IsGrammar, Leads, Any}
 use Rattle.idl_read.proofs.Grammars.{mapped_is, both_is, either_is}
 use Rattle.idl_read.proofs.Leaves.{word_reads, mark_reads, leads_word, leads_mark, apart_word, apart_mark, leads_both, leads_either, begins_so, begins_not}
-use Rattle.idl_read.proofs.Productions.{after_is, before_is, leads_after, leads_by, not_other}
+use Rattle.idl_read.proofs.Productions.{after_is, before_is, leads_after, leads_by}
 use Rattle.idl_read.proofs.Lists.{until_is}
 use Rattle.idl_exprs.specs.Spelling.{identifier}
 use Rattle.idl_exprs.proofs.LeavesRead.{identifier_is}
@@ -15,7 +14,7 @@ use Rattle.corba_decls.specs.DeclSpelling.{declaration}
 use Rattle.corba_decls.specs.DeclReaders.{is_declaration}
 use Rattle.corba_decls.proofs.DeclarationsRead.{declaration_is, leads_declaration}
 use Rattle.corba_syntax.specs.InterfaceSpelling.{interface}
-use Rattle.corba_syntax.proofs.InterfacesRead.{interface_is, leads_interface}
+use Rattle.corba_syntax.proofs.InterfacesRead.{interface_is, leads_interface, closed, end_text}
 use Rattle.idl_exprs.specs.declared.tree.Identifier.{Identifier}
 use Rattle.corba_decls.specs.declared.decl_tree.Declaration.{Declaration}
 use Rattle.corba_syntax.specs.declared.interface_tree.Interface.{Interface}
@@ -25,16 +24,7 @@ use Rattle.corba_syntax.specs.declared.definition_tree.Definition.TheVariants as
 use Rattle.corba_syntax.specs.declared.definition_tree.Definition.TheViews.{roll-Definition, roll-out-Definition, roll-out-Module, out-roll-Module}
 use Rattle.corba_syntax.specs.declared.definition_tree.Module.{Module, out-Module}
 use Rattle.corba_syntax.specs.Derivation.{module_text, definition_text, definition, outermost}
-use Rattle.idl_exprs.specs.Readers.{is_open}
 use Rattle.corba_syntax.specs.DefinitionReaders.{declared_at, module_of, module_at, definition_of, definition_at, outermost_at}
-
-abbrev end_text : Text
-end_text = mark (codes "}") & mark (codes ";")
-
-closed : (front rest : List Token) → end_text (kinds front) → is_open (front ++ rest) ≡ false
-closed front rest s =
-    not_other (mark_is (codes "}")) (front ++ rest)
-    (begins_so (leads_after (λ (_ : Unit {0}). mark (codes ";")) (leads_mark (codes "}"))) tt front rest s)
 
 -- ---- declarations
 

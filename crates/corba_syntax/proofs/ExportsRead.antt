@@ -6,7 +6,7 @@ use Rattle.idl_lex.specs.declared.kinds.TokenKind.{TokenKind}
 use Rattle.idl_read.specs.Reading.{mark_is, word_is, begins_with, many}
 use Rattle.idl_read.specs.Grammar.{Text, mark, one_of, each, IsGrammar, Leads, Any}
 use Rattle.idl_read.proofs.Grammars.{mapped_is, either_is}
-use Rattle.idl_read.proofs.Leaves.{mark_reads, mark_named, leads_mark, Apart, apart_or, apart_word, apart_mark, leads_both, leads_either, begins_so, begins_not}
+use Rattle.idl_read.proofs.Leaves.{mark_reads, leads_mark, Apart, apart_or, apart_word, apart_mark, leads_both, leads_either, begins_so, begins_not}
 use Rattle.idl_read.proofs.Productions.{weaker, before_is, leads_by}
 use Rattle.idl_read.proofs.Lists.{turns, until_is}
 use Rattle.idl_exprs.specs.Readers.{is_joint, is_open}
@@ -24,9 +24,7 @@ use Rattle.corba_syntax.specs.declared.interface_tree.Export.{Export}
 use Rattle.corba_syntax.specs.declared.interface_tree.Export.TheVariants as E
 use Rattle.corba_syntax.specs.InterfaceSpelling.{exported, export}
 use Rattle.corba_syntax.specs.InterfaceReaders.{exported_of, exported_at, export_at}
-
-apart_semicolon : Apart (mark_is (codes ";")) is_joint
-apart_semicolon k e = let is = mark_named (codes ";") k e in rw is refl
+use Rattle.corba_decls.proofs.MembersRead.{apart_semicolon}
 
 attribute_ended : (rest : List Token) → Ended rest → AttributeMay rest
 attribute_ended rest may = (

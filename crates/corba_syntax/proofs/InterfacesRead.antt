@@ -25,10 +25,10 @@ use Rattle.corba_syntax.proofs.ExportsRead.{exports_is}
 abbrev BasesMay : List Token → Type 0
 BasesMay rest = (begins_with (mark_is (codes ":")) rest ≡ false) × ((begins_with (mark_is (codes ",")) rest ≡ false) × NameMay rest)
 
-abbrev end_text : Text
+abbrev pub end_text : Text
 end_text = mark (codes "}") & mark (codes ";")
 
-closed : (front rest : List Token) → end_text (kinds front) → is_open (front ++ rest) ≡ false
+pub closed : (front rest : List Token) → end_text (kinds front) → is_open (front ++ rest) ≡ false
 closed front rest s =
     not_other (mark_is (codes "}")) (front ++ rest)
     (begins_so (leads_after (λ (_ : Unit {0}). mark (codes ";")) (leads_mark (codes "}"))) tt front rest s)

@@ -8,7 +8,7 @@ use Rattle.idl_read.specs.Reading.{mark_is, word_is, token_at, word_in, begins_w
 use Rattle.idl_read.specs.Grammar.{Text, mark, word, ◌&◌, one_of, joined, kinds, IsGrammar, Leads, Any}
 use Rattle.idl_read.proofs.Grammars.{mapped_is, both_is, either_is, parted, one_tree}
 use Rattle.idl_read.proofs.Leaves.{word_reads, mark_reads, mark_named, leads_word, leads_mark, Apart, apart_word, apart_mark, leads_both, leads_either, begins_so, begins_not, begins_else}
-use Rattle.idl_read.proofs.Productions.{weaker, after_is, before_is, leads_after, leads_when, leads_by, words_are, leads_words, not_other}
+use Rattle.idl_read.proofs.Productions.{weaker, after_is, before_is, leads_after, leads_when, leads_by, words_are, leads_words, not_other, word_flag_reads}
 use Rattle.idl_read.proofs.Lists.{turns, joined_is, leads_joined}
 use Rattle.idl_exprs.specs.Trees.{Tree}
 use Rattle.idl_exprs.specs.declared.tree.Identifier.{Identifier}
@@ -25,8 +25,8 @@ use Rattle.corba_syntax.specs.declared.operation_tree.Parameter.{Parameter}
 use Rattle.corba_syntax.specs.declared.operation_tree.Operation.{Operation}
 use Rattle.corba_syntax.specs.OperationSpelling.{if_any, type_text, reference, direction_spell, parameter, result, parameters, raises, operation}
 use Rattle.corba_syntax.specs.OperationReaders.{direction_words, direction_in, is_direction, parameter_of, parameter_at, parameters_at, raises_at, result_of, result_at, operation_of, operation_at}
-use Rattle.corba_syntax.proofs.PartsRead.{any_is, word_flag_reads, reference_is}
-use Rattle.corba_syntax.proofs.AttributesRead.{leads_type, after_name, apart_comma}
+use Rattle.corba_syntax.proofs.PartsRead.{any_is, reference_is}
+use Rattle.corba_decls.proofs.MembersRead.{leads_type, after_name, apart_comma}
 
 -- ---- parameters
 

@@ -1,12 +1,10 @@
 -- Parts that may be missing: what is read is what is spelled.
-use Rattle.std.proofs.Common.{◌≡◌, ℕ, zero, suc, List, [], ◌∷◌, ◌++◌, Option, Some, None, Bool, true, false, cond, refl, ap, subst}
+use Rattle.std.proofs.Common.{◌≡◌, ℕ, zero, suc, List, [], ◌∷◌, ◌++◌, Option, Some, None, Bool, true, false, refl}
 use Rattle.idl_lex.specs.declared.kinds.Token.{Token}
 use Rattle.idl_lex.specs.declared.kinds.TokenKind.{TokenKind}
-use Rattle.idl_lex.specs.declared.kinds.TokenKind.TheVariants.{Name}
-use Rattle.idl_read.specs.Reading.{Reader, word_is, flag_at, begins_with}
-use Rattle.idl_read.specs.Grammar.{Text, word, maybe, when, kinds, IsGrammar, Leads}
-use Rattle.idl_read.proofs.Grammars.{read_is, mapped_is, option_is}
-use Rattle.idl_read.proofs.Leaves.{word_named, equal_bytes}
+use Rattle.idl_read.specs.Reading.{Reader}
+use Rattle.idl_read.specs.Grammar.{Text, maybe, kinds, IsGrammar, Leads}
+use Rattle.idl_read.proofs.Grammars.{mapped_is, option_is}
 use Rattle.idl_exprs.proofs.LeavesRead.{NameMay, scoped_is, is_name, leads_scoped}
 use Rattle.corba_syntax.specs.OperationSpelling.{if_any, reference}
 use Rattle.corba_syntax.specs.OperationReaders.{or_none, any_at, reference_of, reference_at}
@@ -27,35 +25,6 @@ any_is {A} {r} {S} {May} go g none does not_so = mapped_is or_none (if_any S) (o
   back : (y : List A) (ks : List TokenKind) → if_any S y ks → (x : Option (List A)) × (or_none x ≡ y) × maybe S x ks
   back [] ks s = (None, refl, s)
   back (x ∷ xs) ks s = (Some (x ∷ xs), refl, s)
-
--- a word that may be missing
-pub word_flag_reads : (w : List ℕ) → IsGrammar (flag_at (word_is w)) (when (word w)) (λ rest. begins_with (word_is w) rest ≡ false)
-word_flag_reads w = record { found = finds; again = reads } where
-  finds : (ts : List Token) (b : Bool) (rest : List Token) → flag_at (word_is w) ts ≡ Some (b, rest) → (front : List Token)
-      × (ts ≡ front ++ rest) × when (word w) b (kinds front)
-  finds [] b rest e = let is = read_is false b [] rest e in ([], is.1, subst (λ z. when (word w) z []) is.0 refl)
-  finds (t ∷ ts) b rest e = go (word_is w t.kind) refl e where
-    go : (c : Bool) → word_is w t.kind ≡ c → cond {A = Option (Bool × List Token)} c (Some (true, ts)) (Some (false, t ∷ ts))
-        ≡ Some (b, rest) → (front : List Token) × (t ∷ ts ≡ front ++ rest) × when (word w) b (kinds front)
-    go true h q = let is =
-        read_is true b ts rest q in (
-          t ∷ [],
-          ap (λ z. t ∷ z) is.1,
-          subst (λ z. when (word w) z (t.kind ∷ [])) is.0 (ap (λ z. z ∷ []) (word_named w t.kind h)),
-        )
-    go false h q = let is = read_is false b (t ∷ ts) rest q in ([], is.1, subst (λ z. when (word w) z []) is.0 refl)
-
-  stays : (rest : List Token) → begins_with (word_is w) rest ≡ false → flag_at (word_is w) rest ≡ Some (false, rest)
-  stays [] h = refl
-  stays (t ∷ ts) h = rw h refl
-
-  reads : (b : Bool) (front rest : List Token) → when (word w) b (kinds front) → begins_with (word_is w) rest ≡ false
-      → flag_at (word_is w) (front ++ rest) ≡ Some (b, rest)
-  reads false [] rest s may = stays rest may
-  reads false (t ∷ front) rest s may = absurd cc
-  reads true [] rest s may = absurd cc
-  reads true (t ∷ []) rest s may = let is : t.kind ≡ Name w = cc in rw (is, equal_bytes w) refl
-  reads true (t ∷ u ∷ front) rest s may = absurd cc
 
 -- ---- names
 

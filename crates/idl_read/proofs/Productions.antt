@@ -7,7 +7,7 @@ use Rattle.idl_lex.specs.declared.kinds.Token.{Token}
 use Rattle.idl_lex.specs.declared.kinds.TokenKind.{TokenKind}
 use Rattle.idl_lex.specs.declared.kinds.TokenKind.TheVariants.{Name, Mark}
 use Rattle.idl_read.specs.Reading.{Reader, after, before, either, token_at, word_is, mark_is, word_at, mark_at, begins_with, is_id, word_in, has_word, flag_at, begins_other}
-use Rattle.idl_read.specs.Grammar.{Text, empty, word, mark, ◌&◌, one_of, maybe, when, kinds, IsGrammar, Leads, Any}
+use Rattle.idl_read.specs.Grammar.{Text, empty, word, mark, ◌&◌, one_of, maybe, when, kinds, IsGrammar, Leads, Any, one}
 use Rattle.idl_read.proofs.Grammars.{read_is, mapped_is, both_is, either_is}
 use Rattle.idl_read.proofs.Leaves.{token_is, word_named, mark_named, equal_bytes, word_reads, mark_reads, Apart, apart_word, apart_mark, leads_word, leads_mark, leads_both, begins_so, begins_not}
 use Rattle.std.proofs.lemmas.Bool.{or_right, or_left}
@@ -78,34 +78,43 @@ leads_when {B} {P} {T} {f} {g} l m x ks s = go x.0 s where
   go false t = let y = m x.1 ks (unit_left (T x.1) ks t) in (y.0, y.1, y.2, or_right (f y.0) (g y.0) y.3)
   go true t = let y = l tt t.0 t.3 in (y.0, y.1 ++ t.1, t.2 ∙ ap (λ z. z ++ t.1) y.2, or_left (f y.0) (g y.0) y.3)
 
--- a mark that may be missing
-pub flag_reads : (m : List ℕ) → IsGrammar (flag_at (mark_is m)) (when (mark m)) (λ rest. begins_with (mark_is m) rest ≡ false)
-flag_reads m = record { found = finds; again = reads } where
-  finds : (ts : List Token) (b : Bool) (rest : List Token) → flag_at (mark_is m) ts ≡ Some (b, rest) → (front : List Token)
-      × (ts ≡ front ++ rest) × when (mark m) b (kinds front)
-  finds [] b rest e = let is = read_is false b [] rest e in ([], is.1, subst (λ z. when (mark m) z []) is.0 refl)
-  finds (t ∷ ts) b rest e = go (mark_is m t.kind) refl e where
-    go : (c : Bool) → mark_is m t.kind ≡ c → cond {A = Option (Bool × List Token)} c (Some (true, ts)) (Some (false, t ∷ ts))
-        ≡ Some (b, rest) → (front : List Token) × (t ∷ ts ≡ front ++ rest) × when (mark m) b (kinds front)
+-- a token that may be missing
+flag_is : (f : TokenKind → Bool) (x : TokenKind) → ((k : TokenKind) → f k ≡ true → k ≡ x) → f x ≡ true
+    → IsGrammar (flag_at f) (when (one x)) (λ rest. begins_with f rest ≡ false)
+flag_is f x named is_so = record { found = finds; again = reads } where
+  finds : (ts : List Token) (b : Bool) (rest : List Token) → flag_at f ts ≡ Some (b, rest) → (front : List Token)
+      × (ts ≡ front ++ rest) × when (one x) b (kinds front)
+  finds [] b rest e = let is = read_is false b [] rest e in ([], is.1, subst (λ z. when (one x) z []) is.0 refl)
+  finds (t ∷ ts) b rest e = go (f t.kind) refl e where
+    go : (c : Bool) → f t.kind ≡ c → cond {A = Option (Bool × List Token)} c (Some (true, ts)) (Some (false, t ∷ ts))
+        ≡ Some (b, rest) → (front : List Token) × (t ∷ ts ≡ front ++ rest) × when (one x) b (kinds front)
     go true h q = let is =
         read_is true b ts rest q in (
           t ∷ [],
           ap (λ z. t ∷ z) is.1,
-          subst (λ z. when (mark m) z (t.kind ∷ [])) is.0 (ap (λ z. z ∷ []) (mark_named m t.kind h)),
+          subst (λ z. when (one x) z (t.kind ∷ [])) is.0 (ap (λ z. z ∷ []) (named t.kind h)),
         )
-    go false h q = let is = read_is false b (t ∷ ts) rest q in ([], is.1, subst (λ z. when (mark m) z []) is.0 refl)
+    go false h q = let is = read_is false b (t ∷ ts) rest q in ([], is.1, subst (λ z. when (one x) z []) is.0 refl)
 
-  stays : (rest : List Token) → begins_with (mark_is m) rest ≡ false → flag_at (mark_is m) rest ≡ Some (false, rest)
+  stays : (rest : List Token) → begins_with f rest ≡ false → flag_at f rest ≡ Some (false, rest)
   stays [] h = refl
   stays (t ∷ ts) h = rw h refl
 
-  reads : (b : Bool) (front rest : List Token) → when (mark m) b (kinds front) → begins_with (mark_is m) rest ≡ false
-      → flag_at (mark_is m) (front ++ rest) ≡ Some (b, rest)
+  reads : (b : Bool) (front rest : List Token) → when (one x) b (kinds front) → begins_with f rest ≡ false
+      → flag_at f (front ++ rest) ≡ Some (b, rest)
   reads false [] rest s may = stays rest may
   reads false (t ∷ front) rest s may = absurd cc
   reads true [] rest s may = absurd cc
-  reads true (t ∷ []) rest s may = let is : t.kind ≡ Mark m = cc in rw (is, equal_bytes m) refl
+  reads true (t ∷ []) rest s may = let is : t.kind ≡ x = cc in rw (is, is_so) refl
   reads true (t ∷ u ∷ front) rest s may = absurd cc
+
+-- a mark that may be missing
+pub flag_reads : (m : List ℕ) → IsGrammar (flag_at (mark_is m)) (when (mark m)) (λ rest. begins_with (mark_is m) rest ≡ false)
+flag_reads m = flag_is (mark_is m) (Mark m) (mark_named m) (equal_bytes m)
+
+-- a word that may be missing
+pub word_flag_reads : (w : List ℕ) → IsGrammar (flag_at (word_is w)) (when (word w)) (λ rest. begins_with (word_is w) rest ≡ false)
+word_flag_reads w = flag_is (word_is w) (Name w) (word_named w) (equal_bytes w)
 
 -- ---- words that stand for something
 
