@@ -24,7 +24,7 @@ use Rattle.corba_shapes.specs.Fields.{lengths_on, placed_on, Body, fields_on, me
 use Rattle.corba_shapes.specs.Declarations.{has_field}
 use Rattle.corba_shapes.proofs.Standing.{ScopeIs, Declared, declared_ok, declared_is, apart, differ}
 use Rattle.corba_shapes.proofs.Shaping.{FormIs, form_is, form_plain, form_sound, lengths_are}
-use Rattle.corba_shapes.proofs.Lasting.{are_plain, plain_push}
+use Rattle.idl_names.proofs.Plainness.{are_plain, plain_push}
 
 -- ---- names that come once
 

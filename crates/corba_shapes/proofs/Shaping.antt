@@ -34,7 +34,7 @@ use Rattle.corba_shapes.specs.declared.forms.Form.{Form}
 use Rattle.corba_shapes.specs.Forms.{type_of_meaning, type_of_entry, named_type, named_core, simple_core, number_core, kind_of, bounded, base_core, single, type_form, core_shape, rowed, form_shape, is_row, core_tag, form_tag}
 use Rattle.corba_shapes.specs.Fields.{lengths_on}
 use Rattle.corba_shapes.proofs.Standing.{MeaningIs, ScopeIs}
-use Rattle.corba_shapes.proofs.Lasting.{is_plain, plain_sound}
+use Rattle.idl_names.proofs.Plainness.{is_plain, plain_sound}
 
 -- ---- names
 

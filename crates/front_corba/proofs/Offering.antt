@@ -21,7 +21,7 @@ use Rattle.corba_scopes.specs.Around.{innermost, inside}
 use Rattle.corba_scopes.specs.Finding.{named}
 use Rattle.corba_shapes.specs.declared.forms.Form.{Form}
 use Rattle.corba_shapes.specs.Forms.{type_form, form_shape}
-use Rattle.corba_shapes.proofs.Lasting.{is_plain, are_plain, plain_grow, members_grow, plain_push, RaiseIs, RaisesAre, raises_grow, raises_push}
+use Rattle.corba_shapes.proofs.Lasting.{RaiseIs, RaisesAre, raises_grow, raises_push}
 use Rattle.corba_shapes.proofs.Standing.{ScopeIs, declared_ok, declared_is}
 use Rattle.corba_shapes.proofs.Shaping.{FormIs, form_is, form_plain}
 use Rattle.corba_shapes.proofs.Keeping.{shapes_of, StateIs, names_is}
@@ -31,6 +31,7 @@ use Rattle.front_corba.specs.Bases.{is_there, inherited, inherited_on}
 use Rattle.front_corba.specs.Parameters.{goes_in, comes_out, Parameters, no_parameters, with_field, parameter_on, parameters_on, exception_at, with_raise, raised_by, raises_on}
 use Rattle.front_corba.specs.Operations.{gives_back, result_of, operation_of, judged_on, signed_on, operation_on}
 use Rattle.front_corba.specs.Attributes.{getter, setter, attribute_clash, setter_on, attribute_on, attribute_names_on, attributes_on}
+use Rattle.idl_names.proofs.Plainness.{is_plain, are_plain, plain_grow, members_grow, plain_push}
 
 -- ---- operations
 

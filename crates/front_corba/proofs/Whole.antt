@@ -12,12 +12,13 @@ use Rattle.idl_names.proofs.Parts.{then_ok, ok_same}
 use Rattle.idl_names.proofs.Labelling.{or_void_true}
 use Rattle.corba_syntax.specs.declared.definition_tree.Definition.{Definition}
 use Rattle.corba_scopes.specs.Around.{file}
-use Rattle.corba_shapes.proofs.Lasting.{plain_sound, members_sound, raises_sound}
+use Rattle.corba_shapes.proofs.Lasting.{raises_sound}
 use Rattle.corba_shapes.proofs.Keeping.{shapes_of}
 use Rattle.front_corba.specs.State.{PlainOffer, PlainOffering, File, start}
 use Rattle.front_corba.specs.Resolved.{definitions_on, operations_of, interface, interfaces, are_fit, unit_of, resolved, is_whole_outermost, IsWhole}
 use Rattle.front_corba.proofs.Offering.{ResultIs, OperationIs, OffersAre, SeatedAre}
 use Rattle.front_corba.proofs.Keeping.{OfferingsAre, FileIs, start_file, definitions_keep}
+use Rattle.idl_names.proofs.Plainness.{plain_sound, members_sound}
 
 result_sound : (types : List Shape) (s : Shape) → ResultIs (length types) s → or_void s (is_sound_type types (length types) s) ≡ true
 result_sound types s (inl e) = subst (λ z. or_void z (is_sound_type types (length types) z) ≡ true) (sym e) refl

@@ -1,13 +1,12 @@
 -- Interfaces are sound, by induction on the versions, the procedures of each and their parameters.
-use Rattle.std.proofs.Common.{◌≡◌, ◌⊎◌, inl, inr, ℤ, ℕ, ◌+◌, ◌-◌, ◌^◌, ◌<◌, ◌≤◌, Bool, true, false, ◌&&◌, nat_lt, nat_le, nat_eq, List, [], ◌∷◌, ◌++◌, length, map, Option, Some, None, refl, sym, subst, ◌∙◌, arith, if◌then◌else◌}
+use Rattle.std.proofs.Common.{◌≡◌, ◌⊎◌, inl, inr, ℤ, ℕ, ◌+◌, ◌-◌, ◌^◌, ◌<◌, ◌≤◌, Bool, true, false, nat_le, nat_eq, List, [], ◌∷◌, ◌++◌, length, map, Option, Some, None, refl, sym, subst, ◌∙◌, arith, if◌then◌else◌}
 use Rattle.std.specs.Prelude.{Ok}
 use Rattle.std.specs.List.{list_any}
-use Rattle.std.proofs.lemmas.Bool.{and_parts, and_from, leb-false, lt-ltb, ltb-true}
+use Rattle.std.proofs.lemmas.Bool.{leb-false, lt-ltb}
 use Rattle.std.proofs.lemmas.List.{length-append}
 use Rattle.mint.specs.declared.kind.Count.TheVariants.{Any}
 use Rattle.aoi.specs.declared.faults.NameFault.TheVariants.{Twice, Limit}
-use Rattle.aoi.specs.Shapes.{Shape, void, number, enumeration, text, array, structure, choice, optional, named, Members, no_more, member, members_of}
-use Rattle.aoi.specs.Sound.{is_sound_type, are_sound, is_open}
+use Rattle.aoi.specs.Shapes.{Shape, void, number, text, no_more, members_of}
 use Rattle.aoi.specs.Plain.{PlainInterface, PlainOperation}
 use Rattle.onc_syntax.specs.declared.tree.ProcType.{ProcType}
 use Rattle.onc_syntax.specs.declared.tree.ProcType.TheVariants as P
@@ -24,123 +23,74 @@ use Rattle.front_onc.specs.State.{State, counted}
 use Rattle.front_onc.specs.Programs.{number_of, result_of, parameter, argument, parameters_on, is_void, parameters, Procedures, operation, procedure_on, procedures_on, operations, interface, are_twins, version_offered, version_on, versions_on}
 use Rattle.idl_names.proofs.Parts.{then_ok, refused_ok, ok_same}
 use Rattle.front_onc.proofs.Standing.{ScopeIs, type_use_is}
+use Rattle.idl_names.proofs.Plainness.{are_plain, is_plain, members_grow, plain_grow, plain_push}
 
 -- ---- the types of procedures: numbers, texts without a fixed length, and names of types below a limit
 
-abbrev pub is_simple : ℕ → Shape → Bool
-is_simple limit (number k) = true
-is_simple limit (text c) = is_open c
-is_simple limit (named k) = nat_lt k limit
-is_simple limit _ = false
-
-abbrev pub are_simple : ℕ → Members → Bool
-are_simple limit no_more = true
-are_simple limit (member n s ms) = is_simple limit s && are_simple limit ms
-
-pub simple_sound : (types : List Shape) (limit : ℕ) (s : Shape) → is_simple limit s ≡ true → is_sound_type types limit s ≡ true
-simple_sound types limit void h = absurd cc
-simple_sound types limit (number k) h = refl
-simple_sound types limit (enumeration items) h = absurd cc
-simple_sound types limit (text c) h = h
-simple_sound types limit (array s c) h = absurd cc
-simple_sound types limit (structure ms) h = absurd cc
-simple_sound types limit (choice s arms) h = absurd cc
-simple_sound types limit (optional s) h = absurd cc
-simple_sound types limit (named k) h = h
-
-pub members_sound : (types : List Shape) (limit : ℕ) (ms : Members) → are_simple limit ms ≡ true → are_sound types limit ms ≡ true
-members_sound types limit no_more h = refl
-members_sound types limit (member n s ms) h =
-    let parts = and_parts (is_simple limit s) (are_simple limit ms) h in and_from _ _ (simple_sound types limit s parts.0)
-    (members_sound types limit ms parts.1)
-
-pub simple_grow : (low high : ℕ) (s : Shape) → low ≤ high → is_simple low s ≡ true → is_simple high s ≡ true
-simple_grow low high void le h = absurd cc
-simple_grow low high (number k) le h = refl
-simple_grow low high (enumeration items) le h = absurd cc
-simple_grow low high (text c) le h = h
-simple_grow low high (array s c) le h = absurd cc
-simple_grow low high (structure ms) le h = absurd cc
-simple_grow low high (choice s arms) le h = absurd cc
-simple_grow low high (optional s) le h = absurd cc
-simple_grow low high (named k) le h = let lt = ltb-true k low h in lt-ltb k high (omega (arith, lt, le))
-
-pub members_grow : (low high : ℕ) (ms : Members) → low ≤ high → are_simple low ms ≡ true → are_simple high ms ≡ true
-members_grow low high no_more le h = refl
-members_grow low high (member n s ms) le h =
-    let parts = and_parts (is_simple low s) (are_simple low ms) h in and_from _ _ (simple_grow low high s le parts.0)
-    (members_grow low high ms le parts.1)
-
 use_simple : (types : List Shape) (labels : List (ℕ × ℤ)) (u : Use) → UseIs types labels u
-    → is_simple (length types) (shape_of_use u) ≡ true
+    → is_plain (length types) (shape_of_use u) ≡ true
 use_simple types labels (Number k) h = refl
 use_simple types labels (Declared k t) h = lt-ltb k (length types) h.0
 
 -- a result is void or simple
 abbrev pub ResultIs : ℕ → Shape → Type 0
-ResultIs limit s = (s ≡ void) ⊎ (is_simple limit s ≡ true)
+ResultIs limit s = (s ≡ void) ⊎ (is_plain limit s ≡ true)
 
 result_is : (types : List Shape) (labels : List (ℕ × ℤ)) (scope : Scope) (d : ℕ) (t : ProcType) (s : Shape)
     → ScopeIs types labels scope → result_of scope d t ≡ Ok s
     → ResultIs (length types) s
 result_is types labels scope d P.Void s is h = inl (sym (ok_same void s h))
-result_is types labels scope d P.Text s is h = inr (subst (λ z. is_simple (length types) z ≡ true) (ok_same (text Any) s h) refl)
+result_is types labels scope d P.Text s is h = inr (subst (λ z. is_plain (length types) z ≡ true) (ok_same (text Any) s h) refl)
 result_is types labels scope d (P.Plain t) s is h =
     let a = then_ok (type_use scope d t) _ s h in
-    inr (subst (λ z. is_simple (length types) z ≡ true) (ok_same (shape_of_use a.given) s a.rest)
+    inr (subst (λ z. is_plain (length types) z ≡ true) (ok_same (shape_of_use a.given) s a.rest)
     (use_simple types labels a.given (type_use_is types labels scope d t a.given is a.first)))
 
 parameter_is : (types : List Shape) (labels : List (ℕ × ℤ)) (scope : Scope) (d : ℕ) (t : ProcType) (s : Shape)
     → ScopeIs types labels scope → parameter scope d t ≡ Ok s
-    → is_simple (length types) s ≡ true
+    → is_plain (length types) s ≡ true
 parameter_is types labels scope d P.Void s is h = absurd cc
-parameter_is types labels scope d P.Text s is h = subst (λ z. is_simple (length types) z ≡ true) (ok_same (text Any) s h) refl
+parameter_is types labels scope d P.Text s is h = subst (λ z. is_plain (length types) z ≡ true) (ok_same (text Any) s h) refl
 parameter_is types labels scope d (P.Plain t) s is h =
     let a = then_ok (type_use scope d t) _ s h in
     subst
     (λ z.
-    is_simple (length types) z ≡ true) (ok_same (shape_of_use a.given) s a.rest)
+    is_plain (length types) z ≡ true) (ok_same (shape_of_use a.given) s a.rest)
     (use_simple types labels a.given (type_use_is types labels scope d t a.given is a.first))
 
 abbrev Field : Type 0
 Field = List ℕ × Shape
 
-simple_push : (limit : ℕ) (fields : List Field) (f : Field) → are_simple limit (members_of fields) ≡ true → is_simple limit f.1 ≡ true
-    → are_simple limit (members_of (fields ++ f ∷ [])) ≡ true
-simple_push limit [] f a b = and_from _ _ b refl
-simple_push limit (g ∷ fields) f a b = let parts = and_parts (is_simple limit g.1) (are_simple limit (members_of fields)) a in and_from _
-    _ parts.0 (simple_push limit fields f parts.1 b)
-
 parameters_are : (types : List Shape) (labels : List (ℕ × ℤ)) (scope : Scope) (d : ℕ) (fields out : List Field) (list : List ProcType)
-    → ScopeIs types labels scope → are_simple (length types) (members_of fields) ≡ true → parameters_on scope d fields list ≡ Ok out
-    → are_simple (length types) (members_of out) ≡ true
+    → ScopeIs types labels scope → are_plain (length types) (members_of fields) ≡ true → parameters_on scope d fields list ≡ Ok out
+    → are_plain (length types) (members_of out) ≡ true
 parameters_are types labels scope d fields out [] is are h =
-    subst (λ z. are_simple (length types) (members_of z) ≡ true) (ok_same fields out h) are
+    subst (λ z. are_plain (length types) (members_of z) ≡ true) (ok_same fields out h) are
 parameters_are types labels scope d fields out (p ∷ list) is are h =
     let a = then_ok (parameter scope d p) _ out h in
     parameters_are types labels scope d (fields ++ (argument (length fields + 1), a.given) ∷ []) out list is
-    (simple_push (length types) fields (argument (length fields + 1), a.given) are
+    (plain_push (length types) fields (argument (length fields + 1), a.given) are
     (parameter_is types labels scope d p a.given is a.first)) a.rest
 
 abbrev fields_given : List Field → Answer (List Field)
 fields_given f = Ok f
 
 by_void : (b : Bool) (limit : ℕ) (rest : Answer (List Field)) (out : List Field)
-    → (rest ≡ fields_given out → are_simple limit (members_of out) ≡ true) → (if b then fields_given [] else rest) ≡ fields_given out
-    → are_simple limit (members_of out) ≡ true
-by_void true limit rest out f h = subst (λ z. are_simple limit (members_of z) ≡ true) (ok_same [] out h) refl
+    → (rest ≡ fields_given out → are_plain limit (members_of out) ≡ true) → (if b then fields_given [] else rest) ≡ fields_given out
+    → are_plain limit (members_of out) ≡ true
+by_void true limit rest out f h = subst (λ z. are_plain limit (members_of z) ≡ true) (ok_same [] out h) refl
 by_void false limit rest out f h = f h
 
 ins_are : (types : List Shape) (labels : List (ℕ × ℤ)) (scope : Scope) (d : ℕ) (out : List Field) (list : List ProcType)
     → ScopeIs types labels scope → parameters scope d list ≡ Ok out
-    → are_simple (length types) (members_of out) ≡ true
+    → are_plain (length types) (members_of out) ≡ true
 ins_are types labels scope d out list is h = by_void (is_void list) (length types) (parameters_on scope d [] list) out
     (λ h. parameters_are types labels scope d [] out list is refl h) h
 
 -- ---- operations
 
 pub record OperationIs (limit slots : ℕ) (o : PlainOperation) : Type 0 where
-  pub ins : are_simple limit o.ins ≡ true
+  pub ins : are_plain limit o.ins ≡ true
   pub outs : o.outs ≡ no_more
   pub result : ResultIs limit o.result
   pub raises : o.raises ≡ []
@@ -152,7 +102,7 @@ OperationsAre limit slots (o ∷ os) = OperationIs limit slots o × OperationsAr
 
 result_grow : (low high : ℕ) (s : Shape) → low ≤ high → ResultIs low s → ResultIs high s
 result_grow low high s le (inl h) = inl h
-result_grow low high s le (inr h) = inr (simple_grow low high s le h)
+result_grow low high s le (inr h) = inr (plain_grow low high s le h)
 
 operations_grow : (low high few many : ℕ) (os : List PlainOperation) → low ≤ high → few ≤ many → OperationsAre low few os
     → OperationsAre high many os

@@ -13,12 +13,13 @@ use Rattle.idl_names.proofs.Labelling.{or_void_true}
 use Rattle.front_onc.specs.State.{State}
 use Rattle.front_onc.specs.Resolved.{defined_on, start, resolved, is_whole, IsWhole}
 use Rattle.idl_names.proofs.Parts.{then_ok, ok_same}
-use Rattle.front_onc.proofs.Offering.{ResultIs, OperationIs, OperationsAre, InterfacesAre, simple_sound, members_sound, shapes_of}
+use Rattle.front_onc.proofs.Offering.{ResultIs, OperationIs, OperationsAre, InterfacesAre, shapes_of}
 use Rattle.front_onc.proofs.Keeping.{StateIs, defined_all, start_is}
+use Rattle.idl_names.proofs.Plainness.{plain_sound, members_sound}
 
 result_sound : (types : List Shape) (s : Shape) → ResultIs (length types) s → or_void s (is_sound_type types (length types) s) ≡ true
 result_sound types s (inl e) = subst (λ z. or_void z (is_sound_type types (length types) z) ≡ true) (sym e) refl
-result_sound types s (inr h) = or_void_true s _ (simple_sound types (length types) s h)
+result_sound types s (inr h) = or_void_true s _ (plain_sound types (length types) s h)
 
 operation_sound : (types : List Shape) (slots : ℕ) (o : PlainOperation) → OperationIs (length types) slots o
     → is_sound_plain_operation types slots o ≡ true

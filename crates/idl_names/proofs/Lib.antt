@@ -8,6 +8,8 @@ pub mod Tables
 pub mod Steps
 -- Types after others, and what they leave as it is, by mutual induction on types, members and arms
 pub mod Growing
+-- Types that stay sound when others are put after them: numbers, texts, names, rows of these, by induction on the type
+pub mod Plainness
 -- Names and numbers that are different from those before them, by induction on the list
 pub mod Different
 -- What a type that is used stands for, over the types so far
