@@ -24,39 +24,11 @@ fn counted(octets: &[u8]) -> u32
     octets.len() as u32
 }
 
-/// The octets of an unsigned long.
-fn long_octets(order: Order, n: u32) -> [u8; 4]
-    ensures { result ≡ printed.long_octets order n }
-{
-    match order {
-        Order::Big => n.to_be_bytes(),
-        Order::Little => n.to_le_bytes(),
-    }
-}
-
 /// The header of a message.
 fn header(alloc: Global, minor: u8, order: Order, message_type: u8) -> Result<Octets, NoMemory>
     ensures { IfOk result (λ o. o ≡ header_octets minor order message_type) }
 {
-    let octet = match order {
-        Order::Big => 0,
-        Order::Little => 1,
-    };
-    let octets = [
-        b'G',
-        b'I',
-        b'O',
-        b'P',
-        1,
-        minor,
-        octet,
-        message_type,
-        0,
-        0,
-        0,
-        0,
-    ];
-    Octets::from_slice(alloc, &octets)
+    Octets::from_slice(alloc, &giop_head::header_octets(minor, order, message_type))
 }
 
 /// An unsigned long after other octets.
@@ -67,7 +39,7 @@ fn then_long(order: Order, n: u32, octets: Octets) -> Result<Octets, NoMemory>
     let zeros = [0u8; 4];
     let gap = (4 - octets.len() % 4) % 4;
     octets.append(&zeros[..gap])?;
-    octets.append(&long_octets(order, n))?;
+    octets.append(&giop_head::long_octets(order, n))?;
     Ok(octets)
 }
 

@@ -3,10 +3,11 @@
 ghost use Rattle.std.specs.Prelude.{◌≡◌, ◌<◌, ◌+◌, ◌*◌, ◌%◌, map, pos, ◌-ℤ◌, length, OnOk, IfErr};
 ghost use Rattle.mint.specs.Kinds.{IsInRange, under};
 ghost use Rattle.mint.specs.Types.{scalar_of};
-ghost use Rattle.mint.specs.Blank.{blank_scalar, first_of};
+ghost use Rattle.mint.specs.Blank.{blank_scalar};
 ghost use Rattle.case_make.specs.Draws.{below, drawn_length, drawn_number, drawn_one, next, span};
 
 use crate::maker::{Maker, Stop};
+use mint::blank_value::blank_tag;
 use mint::kind::{Count, Kind};
 use mint::node::{Arms, Labels, Tag};
 
@@ -123,24 +124,5 @@ fn span(kind: Kind) -> u64
         Kind::I16 | Kind::U16 => 65_536,
         Kind::I32 | Kind::U32 | Kind::I64 | Kind::U64 => 2_147_483_648,
         Kind::Bool => 2,
-    }
-}
-
-/// The blank value of a discriminant.
-fn blank_tag(tag: &Tag) -> i128
-    ensures { result ≡ blank_scalar (scalar_of tag.now) }
-{
-    match tag {
-        Tag::Num(_) => 0,
-        Tag::Enum(labels) => first_of(labels),
-    }
-}
-
-fn first_of(labels: &Labels) -> i128
-    ensures { result ≡ first_of labels.now }
-{
-    match labels.get(0) {
-        Some(label) => i128::from(*label),
-        None => 0,
     }
 }

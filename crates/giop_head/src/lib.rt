@@ -20,5 +20,8 @@ pub use laws::{
     begins_or_stops, heads_are_read, own_refusals_have_octets, padding_is_there, replies_are_read,
     requests_are_read,
 };
-pub use refusals::{put_addressing, put_refusal, put_size};
+pub use refusals::{
+    header_octets, long_octets, put_addressing, put_header, put_long, put_octets, put_refusal,
+    put_size,
+};
 pub use reply::read_reply;

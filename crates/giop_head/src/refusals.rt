@@ -93,7 +93,7 @@ fn make_room(id: &[u8], buf: &mut SendBuf) -> Result<(), NoMemory>
 
 /// Appends octets to what was put.
 #[tactic(auto, using(crate::proofs::Putting::putting))]
-fn put_octets(octets: &[u8], buf: &mut SendBuf)
+pub fn put_octets(octets: &[u8], buf: &mut SendBuf)
     requires { length octets.now ≤ length buf.old.front }
     ensures done { buf.new.done ≡ buf.old.done ++ octets.now }
     ensures ahead { length buf.new.front + length octets.now ≡ length buf.old.front }
@@ -104,7 +104,7 @@ fn put_octets(octets: &[u8], buf: &mut SendBuf)
 }
 
 /// The octets of an unsigned long.
-fn long_octets(order: Order, n: u32) -> [u8; 4]
+pub fn long_octets(order: Order, n: u32) -> [u8; 4]
     ensures { result ≡ long_octets order n }
 {
     match order {
@@ -114,7 +114,7 @@ fn long_octets(order: Order, n: u32) -> [u8; 4]
 }
 
 /// Appends an unsigned long to what was put.
-fn put_long(order: Order, n: u32, buf: &mut SendBuf)
+pub fn put_long(order: Order, n: u32, buf: &mut SendBuf)
     requires { 7 ≤ length buf.old.front }
     ensures done { buf.new.done ≡ then_long order n buf.old.done }
     ensures ahead { length buf.old.front ≤ length buf.new.front + 7 }
@@ -164,21 +164,40 @@ fn put_string(order: Order, octets: &[u8], buf: &mut SendBuf)
     put_octets(&[0], buf);
 }
 
-/// Puts the header of a reply.
-fn put_header(minor: u8, order: Order, buf: &mut SendBuf)
-    requires empty { buf.old.done ≡ [] }
-    requires room { 12 ≤ length buf.old.front }
-    ensures done { buf.new.done ≡ header_octets minor order 1 }
-    ensures ahead { length buf.new.front + 12 ≡ length buf.old.front }
-    ensures long { length buf.new.done ≡ 12 }
-    ensures spent { NoneFell buf.old.spent buf.new.spent }
+/// The octets of a header of a version and a type, whose size is not set yet.
+pub fn header_octets(minor: u8, order: Order, message_type: u8) -> [u8; 12]
+    ensures { result ≡ header_octets minor order message_type }
 {
     let octet = match order {
         Order::Big => 0,
         Order::Little => 1,
     };
-    let header = [b'G', b'I', b'O', b'P', 1, minor, octet, 1, 0, 0, 0, 0];
-    put_octets(&header, buf);
+    [
+        b'G',
+        b'I',
+        b'O',
+        b'P',
+        1,
+        minor,
+        octet,
+        message_type,
+        0,
+        0,
+        0,
+        0,
+    ]
+}
+
+/// Puts the header of a message of a version and a type, whose size is not set yet.
+pub fn put_header(minor: u8, order: Order, message_type: u8, buf: &mut SendBuf)
+    requires empty { buf.old.done ≡ [] }
+    requires room { 12 ≤ length buf.old.front }
+    ensures done { buf.new.done ≡ header_octets minor order message_type }
+    ensures ahead { length buf.new.front + 12 ≡ length buf.old.front }
+    ensures long { length buf.new.done ≡ 12 }
+    ensures spent { NoneFell buf.old.spent buf.new.spent }
+{
+    put_octets(&header_octets(minor, order, message_type), buf);
 }
 
 /// Appends no service contexts where they come first, in version 1.0.
@@ -219,7 +238,7 @@ fn put_status(minor: u8, order: Order, id: u32, status: u32, buf: &mut SendBuf)
     ensures most { length buf.new.done ≤ 40 }
     ensures spent { NoneFell buf.old.spent buf.new.spent }
 {
-    put_header(minor, order, buf);
+    put_header(minor, order, 1, buf);
     put_first(minor, order, buf);
     put_long(order, id, buf);
     put_long(order, status, buf);

@@ -107,7 +107,7 @@ fn blank_arm(
 }
 
 /// The blank value of a tag.
-fn blank_tag(tag: &Tag) -> i128
+pub fn blank_tag(tag: &Tag) -> i128
     ensures { result ≡ blank_scalar (scalar_of tag.now) }
 {
     match tag {

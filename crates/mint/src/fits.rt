@@ -39,7 +39,8 @@ pub fn is_text(row: &Row, count: Count) -> bool
     row.kind() == Kind::Char && count.allows(row.len()) && all_letters(row)
 }
 
-fn all_letters(row: &Row) -> bool
+/// Whether the numbers of a text are letters: none of its octets is zero.
+pub fn all_letters(row: &Row) -> bool
     requires { row.now.kind ≡ Kind.Char }
     ensures { result ≡ list_all is_letter row.now.numbers }
 {

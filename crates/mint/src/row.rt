@@ -95,6 +95,17 @@ impl Row {
         self.image.append(image)
     }
 
+    /// The row of an image, as one block.
+    pub fn of_image(alloc: Global, kind: Kind, image: &[u8]) -> Result<Row, NoMemory>
+        requires kind { kind ≢ Kind.Bool }
+        requires whole { length image.now % width kind ≡ 0 }
+        ensures { IfOk result (λ r. r ≡ record { kind = kind; numbers = numbers_of kind image.now }) }
+    {
+        let mut row = Row::new(alloc, kind);
+        row.append_image(image)?;
+        Ok(row)
+    }
+
     /// Another row of the same numbers.
     pub fn copy(&self, alloc: Global) -> Result<Row, NoMemory>
         ensures { IfOk result (λ r. r ≡ self.now) }

@@ -55,17 +55,6 @@ fn image(
     Ok((piece, Cursor { place, rest }))
 }
 
-/// The row of an image, as one block.
-fn row_of_image(alloc: Global, kind: Kind, image: &[u8]) -> Result<Row, NoMemory>
-    requires kind { kind ≢ Kind.Bool }
-    requires whole { length image.now % width kind ≡ 0 }
-    ensures { IfOk result (λ r. r ≡ record { kind = kind; numbers = numbers_of kind image.now }) }
-{
-    let mut row = Row::new(alloc, kind);
-    row.append_image(image)?;
-    Ok(row)
-}
-
 /// The row of numbers with their octets reversed, piece by piece.
 #[tactic(auto, using(crate::proofs::RowImages::pieces))]
 fn row_of_swapped(alloc: Global, kind: Kind, octets: &[u8]) -> Result<Row, NoMemory>
@@ -128,7 +117,7 @@ fn numbers_here(
     match way_of(enc, kind) {
         Way::Copied => {
             let (octets, next) = image(enc, kind, Way::Copied, n, at)?;
-            Ok((row_of_image(alloc, kind, octets)?, next))
+            Ok((Row::of_image(alloc, kind, octets)?, next))
         }
         Way::Swapped => {
             let (octets, next) = image(enc, kind, Way::Swapped, n, at)?;

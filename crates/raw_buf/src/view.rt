@@ -157,7 +157,7 @@ fn row_of(alloc: Global, kind: Kind, image: &[u8], order: Order) -> Result<Row, 
 {
     match order {
         Order::Big => big_row(alloc, kind, image),
-        Order::Little => plain_row(alloc, kind, image),
+        Order::Little => Row::of_image(alloc, kind, image),
     }
 }
 
@@ -170,21 +170,10 @@ fn big_row(alloc: Global, kind: Kind, image: &[u8]) -> Result<Row, NoMemory>
         (λ r. r ≡ record { kind = kind; numbers = numbers_of kind (swapped (width kind) image.now) }) }
 {
     if kind.width() == 1 {
-        plain_row(alloc, kind, image)
+        Row::of_image(alloc, kind, image)
     } else {
         turned_row(alloc, kind, image)
     }
-}
-
-// The row of an image whose numbers have the least significant octet first.
-fn plain_row(alloc: Global, kind: Kind, image: &[u8]) -> Result<Row, NoMemory>
-    requires kind { kind ≢ Kind.Bool }
-    requires whole { length image.now % width kind ≡ 0 }
-    ensures { IfOk result (λ r. r ≡ record { kind = kind; numbers = numbers_of kind image.now }) }
-{
-    let mut row = Row::new(alloc, kind);
-    row.append_image(image)?;
-    Ok(row)
 }
 
 // How many octets are turned before they are appended.

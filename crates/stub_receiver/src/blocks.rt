@@ -1,8 +1,8 @@
 //! The numbers of a row, whose octets are known to be there.
 
-ghost use Rattle.std.specs.Prelude.{◌≡◌, ◌==◌, ◌≤◌, ◌*◌, not, IfOk, drop};
+ghost use Rattle.std.specs.Prelude.{◌≡◌, ◌≤◌, ◌*◌, IfOk, drop};
 ghost use Rattle.std.specs.List.{list_all};
-ghost use Rattle.mint.specs.Kinds.{in_range, is_letter, width};
+ghost use Rattle.mint.specs.Kinds.{in_range, width};
 ghost use Rattle.wire_def.specs.Arrays.{kind_of};
 ghost use Rattle.wire_def.specs.Orders.{IsWidth, width_as};
 ghost use Rattle.cast_stub.specs.Into.{fill_block, is_digit, numbers_at, row_into, wide_into};
@@ -14,6 +14,7 @@ use crate::draft::Filling;
 use crate::errors::Halt;
 use crate::looping::{Elements, elements_of};
 use crate::numbers::{digit_number, kind_at};
+use mint::fits::all_letters;
 use mint::kind::Kind;
 use mint::node::Node;
 use mint::row::Row;
@@ -97,18 +98,18 @@ fn are_digits(mint: &Mint, id: u32, row: &Row) -> bool
     ensures { result ≡ list_all (is_digit (array_at mint.now id)) row.now.numbers }
 {
     let Some(node) = mint.node(id) else {
-        return are_letters(row);
+        return all_letters(row);
     };
     match node {
         Node::Row(_, _) => are_in_range(row),
-        Node::Void => are_letters(row),
-        Node::Num(_) => are_letters(row),
-        Node::Enum(_) => are_letters(row),
-        Node::Text(_) => are_letters(row),
-        Node::Group(_) => are_letters(row),
-        Node::Items(_, _) => are_letters(row),
-        Node::Choice(_, _, _) => are_letters(row),
-        Node::Maybe(_) => are_letters(row),
+        Node::Void => all_letters(row),
+        Node::Num(_) => all_letters(row),
+        Node::Enum(_) => all_letters(row),
+        Node::Text(_) => all_letters(row),
+        Node::Group(_) => all_letters(row),
+        Node::Items(_, _) => all_letters(row),
+        Node::Choice(_, _, _) => all_letters(row),
+        Node::Maybe(_) => all_letters(row),
     }
 }
 
@@ -118,20 +119,6 @@ fn are_in_range(row: &Row) -> bool
 {
     let _kind = row.kind();
     true
-}
-
-/// Whether the numbers of a text are letters: none of its octets is zero.
-fn are_letters(row: &Row) -> bool
-    requires { row.now.kind ≡ Kind.Char }
-    ensures { result ≡ list_all is_letter row.now.numbers }
-{
-    has_no_zero(row.image())
-}
-
-fn has_no_zero(image: &[u8]) -> bool
-    ensures { result ≡ list_all (λ o. not (o == 0)) image.now }
-{
-    image.iter().all(|o| *o != 0)
 }
 
 /// So many numbers of a node's row, each in so many octets.
