@@ -1,7 +1,7 @@
 //! What is asked of a row.
 
-use crate::parts::{Bad, member};
 use crate::{giop, mach, records, refusals};
+use check_rows::{Bad, member};
 use serde_json::{Category, Value as Json};
 use std::alloc::Global;
 

@@ -1,6 +1,6 @@
 //! What the heads of GIOP messages say.
 
-use crate::parts::{Bad, member, octets};
+use check_rows::{Bad, member, octets};
 use giop_head::{GiopCall, read_call, read_reply};
 use hex::encode;
 use serde_json::Value as Json;

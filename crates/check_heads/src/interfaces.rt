@@ -1,7 +1,7 @@
 //! Interfaces over back ends that no command has yet, or with what no front end reads yet.
 
-use crate::parts::Bad;
 use aoi::{Field, Fields, Interface, Operation, Operations, Raise, Raises, Ty, Unit, is_sound};
+use check_rows::Bad;
 use kit_base::{Name, NoMemory};
 use mint::kind::{Count, Kind};
 use pres::{Bound, bind};

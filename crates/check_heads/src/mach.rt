@@ -1,7 +1,7 @@
 //! What the heads of Mach messages say, and the replies that refuse a request.
 
-use crate::parts::{Bad, member, octets, signed, word};
 use back_mach::{put_refusal, read_call, read_reply};
+use check_rows::{Bad, member, octets, signed, word};
 use hex::encode;
 use raw_buf::SendBuf;
 use serde_json::Value as Json;

@@ -7,13 +7,12 @@ mod answers;
 mod giop;
 mod interfaces;
 mod mach;
-mod parts;
 mod records;
 mod refusals;
 
 use crate::answers::answer;
-use crate::parts::Bad;
 use anyhow::{Result, bail};
+use check_rows::Bad;
 use std::io::{self, BufRead, BufReader, BufWriter, Write};
 
 fn main(rt: HostRuntime) -> Result<()> {

@@ -1,7 +1,7 @@
 //! JSON records of requests and replies, read and written again.
 
 use crate::interfaces::{raising, silent};
-use crate::parts::{Bad, member};
+use check_rows::{Bad, member};
 use json_shape::{RecordErr, read_reply, read_request, write_reply, write_request};
 use pres::Bound;
 use serde_json::Value as Json;

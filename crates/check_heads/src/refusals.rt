@@ -4,7 +4,7 @@ ghost use Rattle.std.specs.Prelude.{IfOk};
 ghost use Rattle.giop_head.specs.Header.{IsMinor};
 ghost use Rattle.giop_head.specs.Printed.{IsOwn};
 
-use crate::parts::{Bad, member, octets, word};
+use check_rows::{Bad, member, octets, word};
 use giop_head::{put_addressing, put_refusal};
 use hex::encode;
 use raw_buf::SendBuf;

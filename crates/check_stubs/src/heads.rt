@@ -4,8 +4,8 @@ ghost use Rattle.std.specs.Prelude.{IfOk};
 ghost use Rattle.back_xdr.specs.Refusals.{IsOwn};
 
 use crate::lead::HEAD;
-use crate::parts::{Bad, member, octets, part, word};
 use back_xdr::{put_refusal, read_reply};
+use check_rows::{Bad, member, octets, part, word};
 use hex::encode;
 use raw_buf::SendBuf;
 use serde_json::Value as Json;

@@ -9,15 +9,14 @@ mod heads;
 mod lead;
 mod nodes;
 mod numbered;
-mod parts;
 mod printed;
 mod received;
 mod swaps;
 mod values;
 
 use crate::asks::answer;
-use crate::parts::Bad;
 use anyhow::{Result, bail};
+use check_rows::Bad;
 use std::io::{self, BufRead, BufReader, BufWriter, Write};
 
 fn main(rt: HostRuntime) -> Result<()> {

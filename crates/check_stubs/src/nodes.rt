@@ -1,6 +1,6 @@
 //! Tables of types.
 
-use crate::parts::{Bad, list, member, number, part, word};
+use check_rows::{Bad, list, member, number, part, word};
 use mint::errors::MintErr;
 use mint::kind::{Count, Kind};
 use mint::node::{Arms, Labels, Node, NodeIds, Tag};

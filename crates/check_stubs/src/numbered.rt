@@ -4,8 +4,8 @@ ghost use Rattle.std.specs.Prelude.{◌<◌, length};
 
 use crate::asks::{encoding, id_of};
 use crate::nodes::table_of;
-use crate::parts::{Bad, member};
 use case_make::make_value;
+use check_rows::{Bad, member};
 use hex::encode;
 use kit_base::Octets;
 use mint::table::{Mint, NodeId};

@@ -8,8 +8,8 @@ ghost use Rattle.cast_stub.specs.Got.{IsSoundCode};
 
 use crate::asks::{encoding, id_of, place_of};
 use crate::nodes::table_of;
-use crate::parts::{Bad, member, octets, reported, word};
 use cast_stub::RecvCode;
+use check_rows::{Bad, member, octets, reported, word};
 use copy_inline::{inline_recv, rows_recv};
 use hex::encode;
 use kit_base::limits::LONGEST_MESSAGE;

@@ -4,7 +4,7 @@ ghost use Rattle.std.specs.Prelude.{◌≡◌, ◌≢◌, ◌%◌, length, IfSom
 ghost use Rattle.mint.specs.Kinds.{width};
 ghost use Rattle.kit_swap.specs.Swapped.{IsSwapWidth};
 
-use crate::parts::{Bad, member, octets, reported, word};
+use check_rows::{Bad, member, octets, reported, word};
 use kit_base::NoMemory;
 use mint::kind::Kind;
 use mint::row::Row;

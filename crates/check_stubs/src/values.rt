@@ -1,7 +1,7 @@
 //! Values.
 
 use crate::nodes::kind_of;
-use crate::parts::{Bad, list, member, number, octets, part};
+use check_rows::{Bad, list, member, number, octets, part};
 use mint::kind::Kind;
 use mint::row::Row;
 use mint::value::{Value, Values};

@@ -5,36 +5,15 @@ ghost use Rattle.std.specs.Prelude.{◌≤◌, IfOk};
 use crate::declared::put_declaration;
 use crate::shown::{put_expr, put_token, put_type};
 use aoi::{Field, Operation, Ty, Unit};
+use check_rows::Bad;
 use corba_decls::{Declaration, declaration, type_name};
 use corba_syntax::{SyntaxErr, parse};
 use front_corba::{NameFault, files_are_whole, resolve};
 use idl_exprs::expression;
 use idl_lex::{Front, LexErr, Token, Tokens, lex};
 use idl_read::Halt;
-use kit_base::NoMemory;
 use serde_json::{Category, Value as Json};
-use std::alloc::{AllocError, Global};
-
-/// Why a case has no answer.
-#[derive(Clone, Copy, Debug)]
-pub enum Bad {
-    /// The row has none of the forms.
-    Row(&'static str),
-    /// No memory was there.
-    NoMemory,
-}
-
-impl From<NoMemory> for Bad {
-    fn from(_: NoMemory) -> Bad {
-        Bad::NoMemory
-    }
-}
-
-impl From<AllocError> for Bad {
-    fn from(_: AllocError) -> Bad {
-        Bad::NoMemory
-    }
-}
+use std::alloc::Global;
 
 /// The answer to a case.
 pub fn answer(alloc: Global, line: &str) -> Result<String, Bad> {

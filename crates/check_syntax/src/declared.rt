@@ -1,7 +1,7 @@
 //! Declarations as text.
 
-use crate::asks::Bad;
 use crate::shown::{put_expr, put_int, put_name, put_octets, put_type};
+use check_rows::Bad;
 use corba_decls::{
     Aliased, Case, Constant, ConstantType, Declaration, Declarator, Enum, Label, Member, Tag,
     Typedef, Union,

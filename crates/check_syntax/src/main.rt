@@ -7,8 +7,9 @@ mod asks;
 mod declared;
 mod shown;
 
-use crate::asks::{Bad, answer};
+use crate::asks::answer;
 use anyhow::{Result, bail};
+use check_rows::Bad;
 use std::io::{self, BufRead, BufReader, BufWriter, Write};
 
 fn main(rt: HostRuntime) -> Result<()> {

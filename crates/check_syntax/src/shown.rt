@@ -1,6 +1,6 @@
 //! Tokens and trees as text.
 
-use crate::asks::Bad;
+use check_rows::Bad;
 use corba_decls::{Base, Int, IntSize, Simple, TypeName, TypeNode};
 use idl_exprs::{BinaryOp, Expr, Leaf, Node, ScopedName, UnaryOp};
 use idl_lex::{Token, TokenKind};

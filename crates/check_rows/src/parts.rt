@@ -1,31 +1,10 @@
-//! The parts of a case: members, numbers, octets.
+//! The parts of a row: members, elements, numbers, octets.
 
+use crate::Bad;
 use hex::FromHexError;
-use kit_base::{NoMemory, Octets};
-use mint::errors::MintErr;
+use kit_base::Octets;
 use serde_json::Value as Json;
-use std::alloc::{AllocError, Global};
-
-/// Why a case has no answer.
-#[derive(Clone, Copy, Debug)]
-pub enum Bad {
-    /// The row has none of the forms.
-    Row(&'static str),
-    /// No memory was there.
-    NoMemory,
-}
-
-impl From<NoMemory> for Bad {
-    fn from(_: NoMemory) -> Bad {
-        Bad::NoMemory
-    }
-}
-
-impl From<AllocError> for Bad {
-    fn from(_: AllocError) -> Bad {
-        Bad::NoMemory
-    }
-}
+use std::alloc::Global;
 
 /// A member of an object.
 pub fn member<'a>(json: &'a Json, name: &str) -> Result<&'a Json, Bad> {
@@ -73,6 +52,17 @@ pub fn word(json: &Json) -> Result<u32, Bad> {
     match json.as_u64() {
         Some(n) if n < 4_294_967_296 => Ok(n as u32),
         _ => Err(Bad::Row("no number of 32 bits")),
+    }
+}
+
+/// A signed number of 32 bits.
+pub fn signed(json: &Json) -> Result<i32, Bad> {
+    match json.as_i64() {
+        Some(n) => match i32::try_from(n) {
+            Ok(n) => Ok(n),
+            Err(_) => Err(Bad::Row("no signed number of 32 bits")),
+        },
+        None => Err(Bad::Row("no signed number of 32 bits")),
     }
 }
 

@@ -1,0 +1,8 @@
+//! The rows that a check program answers: their members, numbers and octets, and why one has no answer.
+#![tactic(auto)]
+
+mod bad;
+mod parts;
+
+pub use bad::Bad;
+pub use parts::{list, member, number, octets, part, reported, signed, word};
