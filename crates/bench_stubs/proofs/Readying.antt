@@ -1,5 +1,5 @@
 -- That inlined code by itself may be hoisted, and its rows made blocks, and that it is then covered.
-use Rattle.std.proofs.Common.{◌≡◌, ℕ, ◌<◌, List, [], length, get_or, Option, None, Some, refl, sym, ap, subst, ◌∙◌}
+use Rattle.std.proofs.Common.{◌≡◌, ℕ, ◌<◌, List, [], length, get_or, Some, refl, sym, subst}
 use Rattle.std.specs.Prelude.{slice_get}
 use Rattle.std.proofs.lemmas.Option.{slice_get-get_or}
 use Rattle.mint.specs.declared.node.Node.{Node}
@@ -23,13 +23,14 @@ use Rattle.cast_stub.specs.Kept.{ChangesOnlyEnsures, IsCoveredFor, Anywhere, Sta
 use Rattle.cast_stub.specs.Layouts.{layout_of}
 use Rattle.cast_stub.specs.Meaning.{wrote, meaning, IsCovered}
 use Rattle.cast_stub.specs.Parts.{on_some, IsThere}
-use Rattle.cast_stub.specs.Steps.{Step, Steps}
+use Rattle.cast_stub.specs.Steps.{Steps}
 use Rattle.cast_stub.specs.Subs.{sent_steps}
 use Rattle.cast_stub.specs.Turned.{AllTurned}
 use Rattle.stub_lower.specs.Lowered.{CodesSend}
 use Rattle.copy_inline.specs.Inlined.{Does, Turns}
 use Rattle.copy_inline.specs.Rows as rows
 use Rattle.copy_inline.proofs.RowGiven.{hoisted_given}
+use Rattle.cast_stub.proofs.Filled.{opened}
 
 pub alone_given : (nodes : List Node) (id : ℕ) (subs : List (List SendOp)) (code : SendCode) → IsSound (type_at nodes id)
     → AllFollow nodes subs → Goes subs id code → code.subs ≡ []
@@ -56,10 +57,6 @@ alone_rows e nodes id subs flat code sound turned turns adds bare none =
       ends = tt;
     })
     adds bare none
-
-opened : {A B : Type 0} (x : Option A) (f : A → Option B) (b : B) → on_some x f ≡ Some b → (a : A) × (x ≡ Some a) × (f a ≡ Some b)
-opened None f b e = absurd cc
-opened (Some a) f b e = (a, refl, e)
 
 -- inlined code sends what the lowered code sends
 alone_there : (nodes : List Node) (id : ℕ) (subs : List (List SendOp)) (flat : SendCode) → id < length subs → CodesSend Xdr nodes subs

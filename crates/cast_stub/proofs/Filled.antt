@@ -12,6 +12,10 @@ pub some_of : {A B : Type 0} (o : Option A) (f : A → Option B) (b : B) → on_
 some_of None f b e = absurd cc
 some_of (Some a) f b e = (a, (refl, e))
 
+pub opened : {A B : Type 0} (x : Option A) (f : A → Option B) (b : B) → on_some x f ≡ Some b → (a : A) × (x ≡ Some a) × (f a ≡ Some b)
+opened None f b e = absurd cc
+opened (Some a) f b e = (a, refl, e)
+
 pub mapped_of : {A B : Type 0} (o : Option A) (f : A → B) (b : B) → option_map f o ≡ Some b → (a : A) × ((o ≡ Some a) × (f a ≡ b))
 mapped_of None f b e = absurd cc
 mapped_of (Some a) f b e =

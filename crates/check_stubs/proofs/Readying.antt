@@ -1,5 +1,5 @@
 -- That hoisted code after a lead may be run, by induction on the lead's code and on the body's steps.
-use Rattle.std.proofs.Common.{◌≡◌, ℕ, zero, suc, ◌+◌, ◌-◌, ◌^◌, ◌%◌, ◌<◌, ◌≤◌, List, [], ◌∷◌, ◌++◌, length, replicate, get_or, Option, None, Some, option_map, Result, Ok, Err, IfOk, refl, sym, ap, subst, ◌∙◌, arith, length-append, Bool, true, false, ◌&&◌, nat_le, if◌then◌else◌}
+use Rattle.std.proofs.Common.{◌≡◌, ℕ, zero, suc, ◌+◌, ◌-◌, ◌^◌, ◌%◌, ◌<◌, ◌≤◌, List, [], ◌∷◌, ◌++◌, length, replicate, get_or, Option, None, Some, Result, Ok, Err, IfOk, refl, sym, ap, subst, ◌∙◌, arith, length-append, Bool, true, false, ◌&&◌, nat_le, if◌then◌else◌}
 use Rattle.std.specs.Prelude.{slice_get}
 use Rattle.std.proofs.lemmas.List.{length-replicate}
 use Rattle.std.proofs.lemmas.Option.{slice_get-get_or}
@@ -19,16 +19,16 @@ use Rattle.wire_def.specs.Orders.{in_order}
 use Rattle.cast_stub.specs.declared.send.SendCode.{SendCode}
 use Rattle.cast_stub.specs.declared.send.SendOp.{SendOp}
 use Rattle.cast_stub.specs.Append.{append}
-use Rattle.cast_stub.specs.Block.{Block, stop, chunk, each, code_seen}
+use Rattle.cast_stub.specs.Block.{Block, stop, code_seen}
 use Rattle.cast_stub.specs.Follows.{Follows, AllFollow}
 use Rattle.cast_stub.specs.Puts.{IsHead}
 use Rattle.cast_stub.specs.Meaning.{wrote, meaning, IsCovered}
 use Rattle.cast_stub.specs.Parts.{on_some, IsThere}
-use Rattle.cast_stub.specs.Steps.{Step, Room, Pad, Stored, Widened, Copied, Patched, Steps, Calls, both, chunk_steps, steps}
+use Rattle.cast_stub.specs.Steps.{Step, Room, Pad, Stored, Widened, Copied, Patched, Steps, both, steps}
 use Rattle.cast_stub.specs.Subs.{calls_of, sent_steps, deepest, no_subs}
 use Rattle.cast_stub.proofs.Appending.{append-stop, steps-append}
 use Rattle.cast_stub.proofs.Folding.{wrote-append}
-use Rattle.stub_lower.specs.Leads.{chunk_puts, AreChunks, Leads}
+use Rattle.stub_lower.specs.Leads.{AreChunks, Leads}
 use Rattle.stub_lower.specs.Lowered.{CodesSend}
 use Rattle.stub_machine.proofs.Rooms.{within}
 use Rattle.copy_inline.specs.Inlined.{Does, Goes, Turns}
@@ -40,35 +40,14 @@ use Rattle.cast_stub.specs.Kept.{ChangesOnlyEnsures, IsCoveredFor, Anywhere, Sta
 use Rattle.cast_stub.specs.Bare.{RowsAreBare}
 use Rattle.cast_stub.specs.Layouts.{layout_of}
 use Rattle.cast_stub.specs.Turned.{AllTurned}
-use Rattle.cast_stub.specs.Framed.{lead_length}
-use Rattle.cast_stub.proofs.Followed.{mapped}
 use Rattle.back_xdr.specs.declared.procedures.Procedure.{Procedure}
 use Rattle.back_xdr.specs.Leads.{lead, reply_lead}
 use Rattle.check_stubs.specs.Ready.{IsLead, IsBoth}
 use Rattle.cast_stub.proofs.Patched.{length-written, four}
-
--- ---- chunks
-
-chunks-length : (b : Block) (n : ℕ) → chunk_puts b ≡ Some n → (m : ℕ) × (lead_length b ≡ Some m)
-chunks-length stop n e = (0, refl)
-chunks-length (chunk s ps b) n e =
-    let m = mapped (λ k. length ps + k) (chunk_puts b) n e in
-    let rest = chunks-length b m.0 m.1 in
-    (s + rest.0, ap (option_map (λ k. s + k)) rest.1)
-chunks-length _ n e = absurd cc
-
-chunks-steps : (c d : Calls) (h : Head) (v : Val) (b : Block) (n : ℕ) → chunk_puts b ≡ Some n → steps c h b v ≡ steps d h b v
-chunks-steps c d h v stop n e = refl
-chunks-steps c d h v (chunk s ps b) n e =
-    let m = mapped (λ k. length ps + k) (chunk_puts b) n e in
-    ap (both (chunk_steps s ps h v)) (chunks-steps c d h v b m.0 m.1)
-chunks-steps c d h v _ n e = absurd cc
+use Rattle.cast_stub.proofs.Filled.{opened}
+use Rattle.stub_lower.proofs.Chunks.{chunks-length, chunks-steps}
 
 -- ---- steps after others
-
-opened : {A B : Type 0} (x : Option A) (f : A → Option B) (b : B) → on_some x f ≡ Some b → (a : A) × (x ≡ Some a) × (f a ≡ Some b)
-opened None f b e = absurd cc
-opened (Some a) f b e = (a, refl, e)
 
 there : {A : Type 0} (x : Option A) (a : A) → x ≡ Some a → IsThere x
 there x a e = subst IsThere (sym e) tt

@@ -22,7 +22,6 @@ use Rattle.cast_stub.specs.Into.{needed, passed, skipped, all_zero, fill_block, 
 use Rattle.cast_stub.specs.Fill.{at_field, within, part, field_at, all_got, settled, settled_number, runs, fill_items, fill_row, fill_each, fill_arm, fill_present, Callees, fill, fill_case}
 use Rattle.cast_stub.specs.Runs.{Place, Run, gives, refuses, strays, Filler, then_run, map_run, if_some}
 use Rattle.cast_stub.proofs.RecvParts.{replaced, within_is, no_part}
-use Rattle.hoist.proofs.TypedParts.{split}
 use Rattle.copy_inline.specs.declared.sorts.Sort.{Sort}
 use Rattle.copy_inline.specs.declared.sorts.Sort.TheVariants as sort
 use Rattle.copy_inline.specs.Ready.{OfType}
@@ -37,6 +36,7 @@ use Rattle.cast_stub.proofs.Widths.{Wide}
 use Rattle.copy_inline.proofs.RecvLine.{number_turn, line_alike}
 use Rattle.copy_inline.proofs.RecvTimed.{timed, Pairs, AreEven, then_alike, map_alike, needed_even, passed_even, skipped_even, desc_even, within_even, all_even, settled_alike, number_alike, runs_alike}
 use Rattle.copy_inline.proofs.RecvTyped.{IsDraft, AreDrafts, fresh_is, Gives, map_gives, needed_gives, passed_gives, skipped_gives, within_keeps, desc_keeps, all_keep}
+use Rattle.cast_stub.proofs.Filled.{opened}
 
 -- ---- a run from a draft of a type, and another that does likewise
 
@@ -373,7 +373,7 @@ module _ (e : Encoding) (c : Callees) where
       → Fills t (within p (fill_present (fill c b))) (within p (fill_present (fill c (by_type z b (λ u. rowed e u b)))))
   some_both None p b t is ready body d s m h = absurd ready
   some_both (Some u) p b t is ready body d s m h =
-      let k = split (ty_at p t) present_type u is in
+      let k = opened (ty_at p t) present_type u is in
       within_both p t (maybe_type u) (fill_present (fill c b)) (fill_present (fill c (rowed e u b))) (k.1 ∙ ap Some (maybe_of k.0 u k.2))
       (present_both (fill c b) (fill c (rowed e u b)) u (body u ready)) d s m h
 
@@ -383,7 +383,7 @@ module _ (e : Encoding) (c : Callees) where
       → Fills t (within p (fill_arm (fill_case c cs))) (within p (fill_arm (fill_case c (by_type z cs (λ arms. cases_rowed e arms cs)))))
   switch_both None p cs t is ready body d s m h = absurd ready
   switch_both (Some arms) p cs t is ready body d s m h =
-      let k = split (ty_at p t) arms_type arms is in
+      let k = opened (ty_at p t) arms_type arms is in
       let ch = choice_of k.0 arms k.2 in
       within_both p t (choice_type ch.0 arms) (fill_arm (fill_case c cs)) (fill_arm (fill_case c (cases_rowed e arms cs)))
       (k.1 ∙ ap Some ch.1)

@@ -25,7 +25,7 @@ use Rattle.cast_stub.specs.Steps.{Room, Pad, Stored, Widened, Copied, Patched, S
 use Rattle.cast_stub.specs.Follows.{flat}
 use Rattle.cast_stub.specs.Turned.{IsNumber}
 use Rattle.cast_stub.proofs.Followed.{mapped}
-use Rattle.hoist.proofs.TypedParts.{at-typed, split}
+use Rattle.hoist.proofs.TypedParts.{at-typed}
 use Rattle.copy_inline.specs.declared.sorts.Sort.{Sort}
 use Rattle.copy_inline.specs.declared.sorts.Sort.TheVariants as sort
 use Rattle.copy_inline.specs.Sorts.{sort_of, is_image}
@@ -35,6 +35,7 @@ use Rattle.cast_stub.proofs.Widths.{four}
 use Rattle.copy_inline.proofs.RowWords.{pieces, stores, together, loop_stores, wide_pieces, image_pieces, swapped_pieces, one_octet}
 use Rattle.copy_inline.proofs.Sorted.{block_layout, wide_layout, image_width, array_ranged}
 use Rattle.copy_inline.proofs.Joined.{AreJoined, joined_both, joined_on, joined_row, joined_copied, joined_widened}
+use Rattle.cast_stub.proofs.Filled.{opened}
 
 -- ---- a loop over an array
 
@@ -243,7 +244,7 @@ module _ (e : Encoding) (c : Calls) (h : Head) where
       → AreJoined (on_some (at p v) (if_present (steps c h b))) (on_some (at p v) (if_present (steps c h (by_type x b (λ u. rowed e u b)))))
   some_joined None p b t v is of ready body = absurd ready
   some_joined (Some u) p b t v is of ready body =
-      let m = split (ty_at p t) present_type u is in
+      let m = opened (ty_at p t) present_type u is in
       present_joined (at p v) (steps c h b) (steps c h (rowed e u b)) u
       (λ w there. subst (λ (y : Ty). IsOf y w) (maybe_of m.0 u m.2) (at-typed p t v m.0 w of m.1 there)) (λ w o. body u w ready o)
 
@@ -255,7 +256,7 @@ module _ (e : Encoding) (c : Calls) (h : Head) where
       (on_some (on_some (at p v) arm_in) (λ a. case_steps c h (by_type x cs (λ arms. cases_rowed e arms cs)) a.0 a.1))
   switch_joined None p cs t v is of ready body = absurd ready
   switch_joined (Some arms) p cs t v is of ready body =
-      let m = split (ty_at p t) arms_type arms is in
+      let m = opened (ty_at p t) arms_type arms is in
       let s = choice_of m.0 arms m.2 in
       arm_joined (at p v) (case_steps c h cs) (case_steps c h (cases_rowed e arms cs)) s.0 arms
       (λ w there. subst (λ (y : Ty). IsOf y w) s.1 (at-typed p t v m.0 w of m.1 there)) (λ n w o. body arms n w ready o)

@@ -13,9 +13,10 @@ use Rattle.cast_stub.specs.PartTypes.{ty_at, element_at, present_at, arms_at, el
 use Rattle.hoist.specs.Bound.{most, times, bound, cases_bound, Within}
 use Rattle.hoist.specs.Hoisted.{Pending, nothing, octets, row, Hoisted, some_octets, closed, Plan, flat, small, loop, apart, enough, beside, settled, Role, is_small, is_row, is_break, Roles, loop_plan, body_plan, each_plan, some_plan, switch_plan, kept, items_in_type, items_at, or_void, or_none, hoisted, cases_hoisted, InType, WhereApart, IsTaken, CasesTaken}
 use Rattle.hoist.specs.Laws.{HoistingCovers}
-use Rattle.hoist.proofs.TypedParts.{length_at, split, each-part, some-part, switch-part}
+use Rattle.hoist.proofs.TypedParts.{length_at, each-part, some-part, switch-part}
 use Rattle.hoist.proofs.Bounds.{bounded, within-each, within-some, within-switch, within-align, within-chunk, within-over, case-bounded, no_steps}
 use Rattle.hoist.proofs.Rooms.{times_or, Rooms, no_rooms, rooms_none, rooms_more, rooms_first, rooms_after, rooms_ensured, rooms_row, rooms-over}
+use Rattle.cast_stub.proofs.Filled.{opened}
 
 -- the room that the code needs before it
 abbrev pub want : Pending → Val → ℕ
@@ -94,7 +95,7 @@ big-within : (f : Val → Steps) (g : Ty → Option ℕ) (p : List ℕ) (t : Ty)
     → on_some (element_at p t) (λ e. g e.0) ≡ Some u → ((t : Ty) (w : Val) → IsOf t w → Within (f w) (g t))
     → Within (on_some (on_some (at p v) elements_in) (over f)) (Some (times_or (length_at p v) u))
 big-within f g p t v u h is go =
-    let e = split (element_at p t) (λ (x : Ty × Count). g x.0) u is in
+    let e = opened (element_at p t) (λ (x : Ty × Count). g x.0) u is in
     each-part f p t v e.0 (λ (s : Steps). Within s (Some (times_or (length_at p v) u))) h e.1 (no_steps (Some (times_or (length_at p v) u)))
     (λ (vs : Vals) long a. subst (λ (z : Option ℕ). Within (over f vs) (Some (times_or z u))) (sym long)
     (within-over f (e.0).0 u vs a.typed (λ (x : Val) o. subst (Within (f x)) e.2 (go (e.0).0 x o))))
@@ -111,7 +112,7 @@ apart_each : (f : Ty → Val → Steps) (T : Ty → Type 0) (p : List ℕ) (t : 
     → Rooms (on_some (on_some (at p v) elements_in) (over (f (or_void x)))) 0
 apart_each f T p t v None h is taken go = absurd taken
 apart_each f T p t v (Some u) h is taken go =
-    let m = split (ty_at p t) items_in_type u is in
+    let m = opened (ty_at p t) items_in_type u is in
     let n = items-elements m.0 u m.2 in
     let e : element_at p t ≡ Some (pair u n.0) = ap (λ (z : Option Ty). on_some z elements_type) m.1 ∙ n.1 in
     each-part (f u) p t v (pair u n.0) (λ (s : Steps). Rooms s 0) h e (no_rooms 0)

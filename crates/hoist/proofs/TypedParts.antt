@@ -13,6 +13,7 @@ use Rattle.cast_stub.specs.Parts as part
 use Rattle.cast_stub.specs.Steps.{Steps, over, if_present}
 use Rattle.cast_stub.specs.PartTypes.{field_type, in_group_type, ty_at, elements_type, present_type, arms_type, element_at, present_at, arms_at}
 use Rattle.std.proofs.lemmas.Bool.{and_parts}
+use Rattle.cast_stub.proofs.Filled.{opened}
 
 field-typed : (n : ℕ) (ts : Tys) (vs : Vals) (u : Ty) (w : Val) → AreOf ts vs → field_type n ts ≡ Some u → part.field n vs ≡ Some w
     → IsOf u w
@@ -96,16 +97,12 @@ length-count _ vs e = absurd cc
 abbrev pub length_at : List ℕ → Val → Option ℕ
 length_at p v = on_some (at p v) length_in
 
-pub split : {A B : Type 0} (x : Option A) (f : A → Option B) (b : B) → on_some x f ≡ Some b → (a : A) × (x ≡ Some a) × (f a ≡ Some b)
-split None f b e = absurd cc
-split (Some a) f b e = (a, refl, e)
-
 -- a fact of steps over the elements at a path
 pub each-part : (f : Val → Steps) (p : List ℕ) (t : Ty) (v : Val) (e : Ty × Count) (Q : Steps → Type 0) → IsOf t v → element_at p t ≡ Some e
     → Q None → ((vs : Vals) → length_at p v ≡ Some (count vs) → AreElements e.0 e.1 vs → Q (over f vs))
     → Q (on_some (on_some (at p v) elements_in) (over f))
 each-part f p t v e Q h is none go =
-    let u = split (ty_at p t) elements_type e is in
+    let u = opened (ty_at p t) elements_type e is in
     at_part (at p v) refl u.0 u.1 u.2 where
       at_elements : (w : Val) → at p v ≡ Some w → (u : Ty) → elements_type u ≡ Some e → IsOf u w → (x : Option Vals) → elements_in w ≡ x
           → Q (on_some x (over f))
@@ -123,7 +120,7 @@ pub some-part : (f : Val → Steps) (p : List ℕ) (t : Ty) (v : Val) (u : Ty) (
     → Q None → Q (Some []) → ((w : Val) → IsOf u w → Q (f w))
     → Q (on_some (at p v) (if_present f))
 some-part f p t v u Q h is none nothing go =
-    let m = split (ty_at p t) present_type u is in
+    let m = opened (ty_at p t) present_type u is in
     at_part (at p v) refl m.0 m.1 m.2 where
       of_maybe : (m : Ty) (w : Val) → present_type m ≡ Some u → IsOf m w → Q (if_present f w)
       of_maybe (maybe_type t) absent e o = nothing
@@ -140,7 +137,7 @@ pub switch-part : (f : ℤ → Val → Steps) (p : List ℕ) (t : Ty) (v : Val) 
     → arms_at p t ≡ Some arms → Q None → ((n : ℤ) (w : Val) → IsOfArm arms n w → Q (f n w))
     → Q (on_some (on_some (at p v) arm_in) (λ a. f a.0 a.1))
 switch-part f p t v arms Q h is none go =
-    let m = split (ty_at p t) arms_type arms is in
+    let m = opened (ty_at p t) arms_type arms is in
     at_part (at p v) refl m.0 m.1 m.2 where
       of_choice : (m : Ty) (w : Val) → arms_type m ≡ Some arms → IsOf m w → Q (on_some (arm_in w) (λ a. f a.0 a.1))
       of_choice (choice_type s as') (arm n w) e o = let s : as' ≡ arms = cc in go n w (subst (λ (x : Arms). IsOfArm x n w) s o.1)

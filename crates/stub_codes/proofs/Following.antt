@@ -13,7 +13,7 @@ use Rattle.cast_stub.specs.Framed.{lead_length}
 use Rattle.cast_stub.specs.Meaning.{wrote}
 use Rattle.cast_stub.specs.Parts.{on_some}
 use Rattle.cast_stub.specs.Puts.{filled}
-use Rattle.cast_stub.specs.Steps.{Step, Room, Pad, Stored, Widened, Copied, Patched, Steps, Calls, both, chunk_steps, steps}
+use Rattle.cast_stub.specs.Steps.{Step, Room, Pad, Stored, Widened, Copied, Patched, Steps, Calls, both, steps}
 use Rattle.cast_stub.proofs.Followed.{mapped}
 use Rattle.cast_stub.proofs.Filled.{length-filled}
 use Rattle.stub_lower.specs.Leads.{chunk_puts}
@@ -78,21 +78,6 @@ chunks-flat (chunk s ps b) n e =
     let m = mapped (λ k. length ps + k) (chunk_puts b) n e in
     ap (option_map (λ k. length ps + k)) (chunks-flat b m.0 m.1 ∙ sym m.1) ∙ e
 chunks-flat _ n e = absurd cc
-
-pub chunks-length : (b : Block) (n : ℕ) → chunk_puts b ≡ Some n → (m : ℕ) × (lead_length b ≡ Some m)
-chunks-length stop n e = (0, refl)
-chunks-length (chunk s ps b) n e =
-    let m = mapped (λ k. length ps + k) (chunk_puts b) n e in
-    let rest = chunks-length b m.0 m.1 in
-    (s + rest.0, ap (option_map (λ k. s + k)) rest.1)
-chunks-length _ n e = absurd cc
-
-pub chunks-steps : (c d : Calls) (h : Head) (v : Val) (b : Block) (n : ℕ) → chunk_puts b ≡ Some n → steps c h b v ≡ steps d h b v
-chunks-steps c d h v stop n e = refl
-chunks-steps c d h v (chunk s ps b) n e =
-    let m = mapped (λ k. length ps + k) (chunk_puts b) n e in
-    ap (both (chunk_steps s ps h v)) (chunks-steps c d h v b m.0 m.1)
-chunks-steps c d h v _ n e = absurd cc
 
 -- a chunk, and what follows it
 after_chunk : (f : Option (List ℕ)) (k : ℕ) (y : Steps) (p : ℕ) (a o : List ℕ)

@@ -1,5 +1,5 @@
 -- The code of a head, inlined code and a patch append the message.
-use Rattle.std.proofs.Common.{◌≡◌, ℕ, ◌+◌, ◌*◌, ◌≤◌, ◌<◌, List, [], ◌++◌, length, get_or, Option, None, Some, refl, sym, ap, subst, ◌∙◌, append-nil, arith, length-append}
+use Rattle.std.proofs.Common.{◌≡◌, ℕ, ◌+◌, ◌*◌, ◌≤◌, ◌<◌, List, [], ◌++◌, length, get_or, Option, Some, refl, sym, ap, subst, ◌∙◌, append-nil, arith, length-append}
 use Rattle.std.specs.Prelude.{slice_get}
 use Rattle.std.proofs.lemmas.Option.{slice_get-get_or}
 use Rattle.mint.specs.declared.node.Node.{Node}
@@ -42,15 +42,13 @@ use Rattle.stub_codes.specs.Backs.{encoding, tail}
 use Rattle.stub_codes.specs.Messages.{framed}
 use Rattle.stub_codes.specs.Sending.{AreHeads, IsWhole}
 use Rattle.stub_codes.proofs.Bounded.{bounded}
-use Rattle.stub_codes.proofs.Following.{after, chunks-flat, chunks-length, chunks-steps, chunks-append}
+use Rattle.stub_codes.proofs.Following.{after, chunks-flat, chunks-append}
 use Rattle.stub_codes.proofs.Kept.{HasFew}
 use Rattle.stub_codes.proofs.Stated.{tail_steps, tail_runs, states}
+use Rattle.cast_stub.proofs.Filled.{opened}
+use Rattle.stub_lower.proofs.Chunks.{chunks-length, chunks-steps}
 
 -- ---- steps after others
-
-opened : {A B : Type 0} (x : Option A) (f : A → Option B) (b : B) → on_some x f ≡ Some b → (a : A) × (x ≡ Some a) × (f a ≡ Some b)
-opened None f b e = absurd cc
-opened (Some a) f b e = (a, refl, e)
 
 three : (x y z : Steps) (a b d : List Step) → x ≡ Some a → y ≡ Some b → z ≡ Some d → both x (both y z) ≡ Some (a ++ (b ++ d))
 three x y z a b d p q r = rw (p, q, r) refl

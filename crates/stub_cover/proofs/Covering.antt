@@ -24,10 +24,10 @@ use Rattle.stub_flat.proofs.Found.{calls_first, calls_second}
 use Rattle.stub_flat.proofs.PartsTyped.{IsAt, IsOfNode, IsPart, node_typed, part_at, elements_part, present_part, arm_part, rest_part}
 use Rattle.stub_cover.specs.Rooms.{Rooms, least, on, reached, raised, set, took, padded}
 use Rattle.stub_cover.specs.Covers.{is_plain, looped, Credit, unit_of, run_row, run, run_ways}
-use Rattle.cast_stub.proofs.Filled.{length-filled}
+use Rattle.cast_stub.proofs.Filled.{length-filled, opened}
 use Rattle.stub_cover.proofs.Leading.{Anywhere, Reaches, reaches_some, reaches_weaker, reaches_both, reaches_on_some, reaches_present}
 use Rattle.stub_cover.proofs.Going.{Goes, begins, goes_round, goes_moved, goes_aligned}
-use Rattle.stub_cover.proofs.Rooms.{some_same, some_of, mapped_of, tested_of, Holds, within_less, within_there, least_holds_first, least_holds_second, raised_holds, set_holds, on_holds, took_holds, padded_holds}
+use Rattle.stub_cover.proofs.Rooms.{some_same, mapped_of, tested_of, Holds, within_less, within_there, least_holds_first, least_holds_second, raised_holds, set_holds, on_holds, took_holds, padded_holds}
 use Rattle.stub_cover.proofs.Lengths.{length_elements, few}
 use Rattle.stub_cover.proofs.Quiet.{quiet}
 use Rattle.stub_cover.proofs.Looping.{Ends, After, loop_leads}
@@ -149,32 +149,32 @@ module _ (N : List Node) (table : IsTable N) (c : Calls) (h : Head) (Known : Cal
         (row_room_leads i u x v R (owed cr v) p a m)
         (λ q b w. covered r s (Some (i, u)) (set x R) S v t.1 known typed q b w)
     covered (align n r) s cr R S v e known typed p a m =
-        let k = some_of (if is_width n then padded n R else Some R) (run N s r cr) S e in
+        let k = opened (if is_width n then padded n R else Some R) (run N s r cr) S e in
         step (align_steps n) (steps c h r v) k.0 S (owed cr v) (λ A. if is_width n then aligned n A else A) (leaves N s r) p a
         (align_leads n R k.0 (owed cr v) p a k.1 m)
         (λ q b w. covered r s cr k.0 S v k.2 known typed q b w)
     covered (chunk n ps r) s cr R S v e known typed p a m =
-        let k = some_of (took n R) (run N s r cr) S e in
+        let k = opened (took n R) (run N s r cr) S e in
         step (chunk_steps n ps h v) (steps c h r v) k.0 S (owed cr v) (moved n) (leaves N s r) p a
         (chunk_leads n ps h v R k.0 (owed cr v) p a k.1 m)
         (λ q b w. covered r s cr k.0 S v k.2 known typed q b w)
     covered (row_copy i r) s cr R S v e known typed p a m =
         let node : Option Node = node_of N (spot_at N i s) in
-        let k = some_of (run_row node (option_map width (row_kind node)) (unit_of i cr) R) (run N s r None) S e in
+        let k = opened (run_row node (option_map width (row_kind node)) (unit_of i cr) R) (run N s r None) S e in
         step (copy_steps i v) (steps c h r v) k.0 S 0 (closed (moved (width_of (row_kind node)))) (leaves N s r) p a
         (copy_leads N node (unit_of i cr) i v (owed cr v) p a (λ y is. part_of i s v y typed is) (owed_at i cr v)
         (row_kind node) R k.0 refl k.1 m)
         (λ q b w. covered r s None k.0 S v k.2 known typed q b w)
     covered (row_swap i r) s cr R S v e known typed p a m =
         let node : Option Node = node_of N (spot_at N i s) in
-        let k = some_of (run_row node (option_map width (row_kind node)) (unit_of i cr) R) (run N s r None) S e in
+        let k = opened (run_row node (option_map width (row_kind node)) (unit_of i cr) R) (run N s r None) S e in
         step (swap_steps i v) (steps c h r v) k.0 S 0 (closed (moved (width_of (row_kind node)))) (leaves N s r) p a
         (swap_leads N node (unit_of i cr) i v (owed cr v) p a (λ y is. part_of i s v y typed is) (owed_at i cr v)
         (row_kind node) R k.0 refl k.1 m)
         (λ q b w. covered r s None k.0 S v k.2 known typed q b w)
     covered (row_wide i o r) s cr R S v e known typed p a m =
         let node : Option Node = node_of N (spot_at N i s) in
-        let k = some_of (run_row node (option_map (λ (j : Kind). 4) (row_kind node)) (unit_of i cr) R) (run N s r None) S e in
+        let k = opened (run_row node (option_map (λ (j : Kind). 4) (row_kind node)) (unit_of i cr) R) (run N s r None) S e in
         step (wide_steps i o v) (steps c h r v) k.0 S 0 (closed (moved 4)) (leaves N s r) p a
         (wide_leads N node (unit_of i cr) i v (owed cr v) p a (λ y is. part_of i s v y typed is) (owed_at i cr v)
         o (row_kind node) R k.0 k.1 m)
@@ -184,11 +184,11 @@ module _ (N : List Node) (table : IsTable N) (c : Calls) (h : Head) (Known : Cal
         let way : Residues → Residues = leaves N (element node) body in
         let first = calls_first Known (calls N (element node) body) (calls N s r) known in
         let second = calls_second Known (calls N (element node) body) (calls N s r) known in
-        let k = some_of (looped (run N (element node) body None) (closed way (reached R)) (is_plain body) (greatest node) (unit_of i cr) R)
+        let k = opened (looped (run N (element node) body None) (closed way (reached R)) (is_plain body) (greatest node) (unit_of i cr) R)
         (run N s r None) S e in
         step (on_some (on_some (at i v) elements_in) (over (steps c h body))) (steps c h r v) k.0 S 0 (closed way) (leaves N s r) p a
         (reaches_on_some (After k.0 (closed way) p) (on_some (at i v) elements_in) (over (steps c h body)) p a (λ vs is.
-        let y = some_of (at i v) elements_in vs is in
+        let y = opened (at i v) elements_in vs is in
         let long : length_in y.0 ≡ Some (count vs) = length_elements y.0 vs y.2 in
         loop_leads (run N (element node) body None) way (steps c h body) (IsAt N (element node))
         (λ w good Y Z made q b g. covered body (element node) None Y Z w made first good q b g)
@@ -203,12 +203,12 @@ module _ (N : List Node) (table : IsTable N) (c : Calls) (h : Head) (Known : Cal
         let node : Option Node = node_of N (spot_at N i s) in
         let first = calls_first Known (way_calls N node cs cs) (calls N s r) known in
         let second = calls_second Known (way_calls N node cs cs) (calls N s r) known in
-        let k = some_of (run_ways N node cs cs R) (run N s r None) S e in
+        let k = opened (run_ways N node cs cs R) (run N s r None) S e in
         let bare : Holds R 0 p a = within_less (R (p % 8)) (owed cr v) 0 a a (omega arith) (omega arith) m in
         step (on_some (on_some (at i v) arm_in) (λ x. case_steps c h cs x.0 x.1)) (steps c h r v) k.0 S 0 (ways_leave N node cs cs)
         (leaves N s r) p a
         (reaches_on_some (After k.0 (ways_leave N node cs cs) p) (on_some (at i v) arm_in) (λ x. case_steps c h cs x.0 x.1) p a (λ x is.
-        let y = some_of (at i v) arm_in x is in
+        let y = opened (at i v) arm_in x is in
         let of_arm : IsOfNode N node (arm x.0 x.1) =
         subst (IsOfNode N node) (arm_is y.0 x y.2) (part_of i s v y.0 typed y.1) in
         ways_covered cs cs node R k.0 x.0 x.1 k.1 first of_arm refl p a bare))
@@ -219,7 +219,7 @@ module _ (N : List Node) (table : IsTable N) (c : Calls) (h : Head) (Known : Cal
         let way : Residues → Residues = leaves N inner body in
         let first = calls_first Known (calls N inner body) (calls N s r) known in
         let second = calls_second Known (calls N inner body) (calls N s r) known in
-        let k = some_of (run N inner body None R) (λ (Z : Rooms). run N s r None (least R Z)) S e in
+        let k = opened (run N inner body None R) (λ (Z : Rooms). run N s r None (least R Z)) S e in
         let bare : Holds R 0 p a = within_less (R (p % 8)) (owed cr v) 0 a a (omega arith) (omega arith) m in
         step (on_some (at i v) (if_present (steps c h body))) (steps c h r v) (least R k.0) S 0 (λ A. sum A (way A)) (leaves N s r) p a
         (reaches_on_some (After (least R k.0) (λ A. sum A (way A)) p) (at i v) (if_present (steps c h body)) p a (λ y is.
@@ -254,7 +254,7 @@ module _ (N : List Node) (table : IsTable N) (c : Calls) (h : Head) (Known : Cal
         let ways : Residues → Residues = ways_leave N choice all cs in
         let first = calls_first Known (calls N inner b) (way_calls N choice all cs) known in
         let second = calls_second Known (calls N inner b) (way_calls N choice all cs) known in
-        let k = some_of (run N inner b None R) (λ (Z : Rooms). option_map (least Z) (run_ways N choice all cs R)) S e in
+        let k = opened (run N inner b None R) (λ (Z : Rooms). option_map (least Z) (run_ways N choice all cs R)) S e in
         let l = mapped_of (run_ways N choice all cs R) (least k.0) S k.2 in
         subst (λ (Z : Rooms). Reaches (After Z (λ A. sum (way A) (ways A)) p) (case_steps c h (case j b cs) n w) p a) l.2
         (either j b cs n w k.0 l.0 way ways p a (has_case n all) (int_eq n j) refl same

@@ -8,9 +8,10 @@ use Rattle.stub_cover.specs.Rooms.{Rooms, least, only_room, on, least_first}
 use Rattle.stub_cover.specs.Covers.{Turn, suffices, turns, most_turns, or_else, free_loop, bounded_loop, bare_loop, looped}
 use Rattle.stub_cover.proofs.Leading.{Leads, weaker, Beside, beside, Reaches, reaches_some, reaches_weaker, reaches_both}
 use Rattle.stub_cover.proofs.Going.{implied, below_next, residue, Goes, begins, goes_round}
-use Rattle.stub_cover.proofs.Rooms.{some_of, mapped_of, tested_of, some_same, Within, Holds, within_less, least_holds_first, least_holds_second, on_holds, only_holds, least_there}
+use Rattle.stub_cover.proofs.Rooms.{mapped_of, tested_of, some_same, Within, Holds, within_less, least_holds_first, least_holds_second, on_holds, only_holds, least_there}
 use Rattle.stub_cover.proofs.Quiet.{IsQuiet}
 use Rattle.std.proofs.lemmas.Bool.{and_parts}
+use Rattle.cast_stub.proofs.Filled.{opened}
 
 -- rooms hold with so many octets beside them, at a position to which a way leads from another
 abbrev pub Ends : Rooms → ℕ → (Residues → Residues) → ℕ → ℕ → ℕ → Type 0
@@ -73,7 +74,7 @@ module _ (T : Turn) (L : Residues → Residues) (f : Val → Steps) (Good : Val 
   turns_first : (n : ℕ) (R S : Rooms) → turns n T R ≡ Some S → (p a : ℕ) → Holds R 0 p a → Holds S 0 p a
   turns_first zero R S e p a h = subst (λ (Z : Rooms). Holds Z 0 p a) (some_same R S e) h
   turns_first (suc n) R S e p a h =
-      let m = some_of (T R) (λ (Z : Rooms). option_map (least R) (turns n T Z)) S e in
+      let m = opened (T R) (λ (Z : Rooms). option_map (least R) (turns n T Z)) S e in
       let k = mapped_of (turns n T m.0) (least R) S m.2 in
       subst (λ (Z : Rooms). Holds Z 0 p a) k.2 (least_holds_first R k.0 0 p a h)
 
@@ -83,7 +84,7 @@ module _ (T : Turn) (L : Residues → Residues) (f : Val → Steps) (Good : Val 
   over_turns n R S e i no_more good few p a h g = reaches_some (After S (closed L) i) [] p a (turns_first n R S e p a h, g)
   over_turns zero R S e i (val v vs) good few p a h g = absurd (omega (arith, few))
   over_turns (suc n) R S e i (val v vs) good few p a h g =
-      let m = some_of (T R) (λ (Z : Rooms). option_map (least R) (turns n T Z)) S e in
+      let m = opened (T R) (λ (Z : Rooms). option_map (least R) (turns n T Z)) S e in
       let k = mapped_of (turns n T m.0) (least R) S m.2 in
       reaches_both (After m.0 L p) (After S (closed L) i) (f v) (over f vs) p a (turn v good.0 R m.0 m.1 p a h)
       (λ q b x. reaches_weaker (After k.0 (closed L) i) (After S (closed L) i) (over f vs) q b

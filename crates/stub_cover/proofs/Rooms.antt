@@ -1,21 +1,17 @@
 -- Rooms hold of a position: behind octets, behind zeros, and where ways meet.
 use Rattle.std.proofs.Common.{◌≡◌, ℕ, zero, suc, ◌+◌, ◌-◌, ◌%◌, ◌<◌, ◌≤◌, max, Bool, true, false, nat_eq, nat_le, if◌then◌else◌, Option, Some, None, is_some, option_map, refl, sym, subst, arith, leb-true, eq-eqb}
 use Rattle.wire_def.specs.Scalars.{gap}
-use Rattle.cast_stub.specs.Parts.{on_some}
 use Rattle.cast_stub.specs.Steps.{is_width}
 use Rattle.stub_flat.specs.Residues.{Residues}
 use Rattle.stub_cover.specs.Rooms.{Rooms, lesser, least, only_room, on, raised, set, has, have_first, took, padded_one, padded_first, padded, least_first}
 use Rattle.stub_cover.proofs.Going.{below_next, residue, moved_back, same_gap, same_end}
 use Rattle.std.proofs.lemmas.Bool.{and_parts}
+use Rattle.cast_stub.proofs.Filled.{opened}
 
 -- ---- options
 
 pub some_same : {A : Type 0} (a b : A) → Some a ≡ Some b → a ≡ b
 some_same a b e = cc
-
-pub some_of : {A B : Type 0} (o : Option A) (f : A → Option B) (b : B) → on_some o f ≡ Some b → (a : A) × (o ≡ Some a) × (f a ≡ Some b)
-some_of None f b e = absurd cc
-some_of (Some a) f b e = (a, refl, e)
 
 pub mapped_of : {A B : Type 0} (o : Option A) (f : A → B) (b : B) → option_map f o ≡ Some b → (a : A) × (o ≡ Some a) × (f a ≡ b)
 mapped_of None f b e = absurd cc
@@ -143,7 +139,7 @@ one_behind k a (Some y) S e x b h =
 first_behind : (k a : ℕ) (R S : Rooms) → padded_first k a R ≡ Some S → (r : ℕ) → r < k → Behind a S r (R r)
 first_behind zero a R S e r lt = absurd (omega (arith, lt))
 first_behind (suc k) a R S e r lt =
-    let m = some_of (padded_one k a (R k)) (λ (T : Rooms). option_map (least T) (padded_first k a R)) S e in
+    let m = opened (padded_one k a (R k)) (λ (T : Rooms). option_map (least T) (padded_first k a R)) S e in
     let n = mapped_of (padded_first k a R) (least m.0) S m.2 in
     subst (λ (T : Rooms). Behind a T r (R r)) n.2
     (below_next (λ (j : ℕ). Behind a (least m.0 n.0) j (R j)) k r lt

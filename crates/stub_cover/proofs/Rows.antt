@@ -20,12 +20,13 @@ use Rattle.stub_cover.specs.Rooms.{Rooms, reached, took}
 use Rattle.stub_cover.specs.Covers.{run_row}
 use Rattle.stub_cover.proofs.Leading.{AreQuiet, Leads, Reaches, reaches_some, reaches_on_some}
 use Rattle.stub_cover.proofs.Going.{begins, goes_round, goes_moved}
-use Rattle.stub_cover.proofs.Rooms.{some_same, some_of, Holds, within_there, took_holds}
+use Rattle.stub_cover.proofs.Rooms.{some_same, Holds, within_there, took_holds}
 use Rattle.stub_cover.proofs.Quiet.{IsQuiet}
 use Rattle.stub_flat.proofs.PartsTyped.{IsOfNode}
 use Rattle.stub_cover.proofs.Lengths.{length_row, few, kind_known}
 use Rattle.stub_cover.proofs.Looping.{After, loop_leads}
 use Rattle.cast_stub.proofs.Patched.{four}
+use Rattle.cast_stub.proofs.Filled.{opened}
 
 -- ---- how many octets
 
@@ -47,14 +48,14 @@ swapped_long k (n ∷ ns) =
 
 word_long : (o : Order) (z : ℤ) (os : List ℕ) → word 4 o z ≡ Some os → length os ≡ 4
 word_long o z os e =
-    let m = some_of (on_some (half_of 4) (λ h. wrapped h z)) (λ (n : ℕ). Some (in_order o 4 n)) os e in
+    let m = opened (on_some (half_of 4) (λ h. wrapped h z)) (λ (n : ℕ). Some (in_order o 4 n)) os e in
     sym (ap length (some_same (in_order o 4 m.0) os m.2)) ∙ four o m.0
 
 wide_long : (o : Order) (ns : List ℤ) (os : List ℕ) → wide o ns ≡ Some os → length os ≡ length ns * 4
 wide_long o [] os e = sym (ap length (some_same [] os e))
 wide_long o (n ∷ ns) os e =
-    let a = some_of (word 4 o n) (λ (x : List ℕ). on_some (wide o ns) (λ (y : List ℕ). Some (x ++ y))) os e in
-    let b = some_of (wide o ns) (λ (y : List ℕ). Some (a.0 ++ y)) os a.2 in
+    let a = opened (word 4 o n) (λ (x : List ℕ). on_some (wide o ns) (λ (y : List ℕ). Some (x ++ y))) os e in
+    let b = opened (wide o ns) (λ (y : List ℕ). Some (a.0 ++ y)) os a.2 in
     let first : length a.0 ≡ 4 = word_long o n a.0 a.1 in
     let rest : length b.0 ≡ length ns * 4 = wide_long o ns b.0 b.1 in
     let all : length (a.0 ++ b.0) ≡ length a.0 + length b.0 = length-append {A = ℕ} a.0 b.0 in
@@ -148,7 +149,7 @@ module _ (N : List Node) (node : Option Node) (unit : Option ℕ) (q : List ℕ)
       → Reaches (After S (closed (moved w)) p) (on_some (on_some (at q v) row_in) g) p a
   of_row w R S g e h made =
       reaches_on_some (After S (closed (moved w)) p) (on_some (at q v) row_in) g p a (λ r is.
-      let y = some_of (at q v) row_in r is in
+      let y = opened (at q v) row_in r is in
       let n : length_in y.0 ≡ Some (length r.1) = length_row y.0 r y.2 in
       made y.0 r (typed y.0 y.1) y.2
       (row_far node w (length r.1) unit R S e (λ m most. few N node y.0 (length r.1) m (typed y.0 y.1) n most) x p a

@@ -2,6 +2,8 @@
 
 -- One operation more after a code
 pub mod Adding
+-- Code of chunks alone is a lead, and takes no step of a call, by induction on the code
+pub mod Chunks
 -- When a run gives what a reader gives
 pub mod Agreeing
 -- * Code that is made piece by piece

@@ -10,7 +10,6 @@ use Rattle.raw_buf.specs.Buf.{Buf}
 use Rattle.raw_buf.proofs.Standing.{none_fell-refl, none_fell-trans}
 use Rattle.cast_stub.specs.declared.send.SendOp.{SendOp}
 use Rattle.cast_stub.specs.declared.send.SendOp.TheVariants as op
-use Rattle.cast_stub.specs.Parts.{on_some}
 use Rattle.cast_stub.specs.Block.{Block, stop, Piece, op_seen, code_seen}
 use Rattle.cast_stub.specs.Steps.{Step, Room, Pad, Stored, Widened, Copied, Patched, Steps, both, Calls, over, steps, code_steps, each_steps, some_steps, switch_steps}
 use Rattle.cast_stub.specs.Subs.{call_steps}
@@ -21,6 +20,7 @@ use Rattle.stub_machine.proofs.Folds.{ended-both}
 use Rattle.cast_stub.proofs.Codes.{code-drop}
 use Rattle.stub_machine.proofs.Running.{Left, block_step, over-drop, numbers-drop}
 use Rattle.cast_stub.proofs.Patched.{length-written, four}
+use Rattle.cast_stub.proofs.Filled.{opened}
 
 -- ---- single steps
 
@@ -55,16 +55,12 @@ act-grows (Widened o k) s u e = appended_grows (nat_le (length o) s.ahead) o s _
 act-grows (Copied o) s u e = appended_grows (nat_le (length o) s.ahead) o s _ u refl e
 act-grows (Patched at sub order) s u e = patch_grows (nat_le (at + 4) (length s.done)) at _ s _ u refl (four order _) refl e
 
-split : {A B : Type 0} (z : Option A) (f : A → Option B) (u : B) → on_some z f ≡ Some u → (t : A) × (z ≡ Some t) × (f t ≡ Some u)
-split None f u e = absurd cc
-split (Some t) f u e = (t, refl, e)
-
 ran-grows : (ss : List Step) (s u : State) → ran ss s ≡ Some u → length s.done ≤ length u.done
 ran-grows [] s u e =
     let same : s ≡ u = cc in
     omega (arith, ap (λ (x : State). length x.done) same)
 ran-grows (x ∷ ss) s u e =
-    let k = split (act x s) (ran ss) u e in
+    let k = opened (act x s) (ran ss) u e in
     omega (arith, act-grows x s k.0 k.1, ran-grows ss k.0 u k.2)
 
 pub ended-grows : (x : Steps) (s u : State) → Ends x s u → length s.done ≤ length u.done
@@ -82,7 +78,7 @@ grown-kept x b c e = subst (λ (d : Buf). Grown x (state_of b) (state_of d)) (sy
 pub first-grown : (x y : Steps) (s t : State) → Grown x s t → Grown (both x y) s t
 first-grown x y s t g = record {
   grows = λ (u : State) e.
-      let k = split (ended x s) (ended y) u (sym (ended-both x y s) ∙ e) in
+      let k = opened (ended x s) (ended y) u (sym (ended-both x y s) ∙ e) in
       omega (arith, g.grows k.0 k.1, ended-grows y k.0 u k.2);
   spent = g.spent;
 }

@@ -1,12 +1,12 @@
 -- What a buffer has spent does not fall, whatever is run, by induction on the steps.
-use Rattle.std.proofs.Common.{◌≡◌, ℕ, zero, suc, ◌+◌, List, [], ◌∷◌, length, replicate, Option, Some, None, Bool, true, false, nat_le, if◌then◌else◌, subst, refl}
+use Rattle.std.proofs.Common.{◌≡◌, ℕ, zero, suc, ◌+◌, List, [], ◌∷◌, length, replicate, Some, None, Bool, true, false, nat_le, if◌then◌else◌, subst}
 use Rattle.wire_def.specs.Scalars.{gap}
 use Rattle.raw_buf.specs.declared.tally.Tally.{Tally}
 use Rattle.raw_buf.specs.Buf.{NoneFell, moved, stored}
 use Rattle.raw_buf.proofs.Standing.{none_fell-refl, none_fell-trans, none_fell-checked, none_fell-moved, none_fell-stored, none_fell-rowed}
-use Rattle.cast_stub.specs.Parts.{on_some}
 use Rattle.cast_stub.specs.Steps.{Step, Room, Pad, Stored, Widened, Copied, Patched, Steps}
 use Rattle.stub_machine.specs.Run.{State, stored_times, act, ran, Ends}
+use Rattle.cast_stub.proofs.Filled.{opened}
 
 stored-stands : (k : ℕ) (t : Tally) → NoneFell t (stored_times k t)
 stored-stands zero t = none_fell-refl t
@@ -35,14 +35,10 @@ act-stands (Widened o k) s u e =
 act-stands (Copied o) s u e = chosen_stands (nat_le (length o) s.ahead) s _ u (none_fell-rowed s.spent) e
 act-stands (Patched at sub order) s u e = chosen_stands (nat_le (at + 4) (length s.done)) s _ u (none_fell-stored s.spent) e
 
-split : {A B : Type 0} (z : Option A) (f : A → Option B) (u : B) → on_some z f ≡ Some u → (t : A) × (z ≡ Some t) × (f t ≡ Some u)
-split None f u e = absurd cc
-split (Some t) f u e = (t, refl, e)
-
 ran-stands : (ss : List Step) (s u : State) → ran ss s ≡ Some u → NoneFell s.spent u.spent
 ran-stands [] s u e = kept_stands s s u (none_fell-refl s.spent) e
 ran-stands (x ∷ ss) s u e =
-    let k = split (act x s) (ran ss) u e in
+    let k = opened (act x s) (ran ss) u e in
     none_fell-trans s.spent (k.0).spent u.spent (act-stands x s k.0 k.1) (ran-stands ss k.0 u k.2)
 
 pub ended-stands : (x : Steps) (s u : State) → Ends x s u → NoneFell s.spent u.spent
