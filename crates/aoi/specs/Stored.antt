@@ -1,5 +1,5 @@
 -- How the logic stores the plain tree of a type: as a tree of numbers that gives it back.
-use Rattle.std.specs.Prelude.{◌≡◌, refl, ℕ, ◌==◌, cond, ℤ, pos, negsuc, List, [], ◌∷◌}
+use Rattle.std.specs.Prelude.{◌≡◌, refl, ℕ, ◌==◌, cond, ℤ, List, [], ◌∷◌}
 use Rattle.std.specs.Coded.{Coded, code_by}
 use base.Stored.{Gv, gnil, gnum, gcons, num}
 use denote.Struct.Codes.{itself}
@@ -9,8 +9,9 @@ use Rattle.mint.specs.declared.kind.Kind.TheVariants as kind
 use Rattle.mint.specs.declared.kind.Count.{Count}
 use Rattle.mint.specs.declared.kind.Count.TheVariants.{Exactly, AtMost, Any}
 use Rattle.aoi.specs.Shapes.{Shape, void, number, enumeration, text, array, structure, choice, optional, named, Members, no_more, member, Arms, no_default, default, arm}
+use Rattle.kit_base.specs.Stored.{number_code, number_at, number_back, octets_code as name_code, octets_at as name_at, octets_back as name_back}
 
--- ---- kinds, counts, numbers, names and items
+-- ---- kinds, counts and items
 
 abbrev pub kind_number : Kind → ℕ
 kind_number kind.Octet = 0
@@ -58,32 +59,6 @@ count_back : (c : Count) → count_at (count_code c) ≡ c
 count_back (Exactly n) = refl
 count_back (AtMost n) = refl
 count_back Any = refl
-
-abbrev pub number_code : ℤ → Gv
-number_code (pos n) = gcons (gnum 0) (gnum n)
-number_code (negsuc n) = gcons (gnum 1) (gnum n)
-
-abbrev pub number_at : Gv → ℤ
-number_at gnil = pos 0
-number_at (gnum n) = pos 0
-number_at (gcons a b) = cond (num a == 0) (pos (num b)) (negsuc (num b))
-
-number_back : (n : ℤ) → number_at (number_code n) ≡ n
-number_back (pos n) = refl
-number_back (negsuc n) = refl
-
-abbrev pub name_code : List ℕ → Gv
-name_code [] = gnil
-name_code (n ∷ ns) = gcons (gnum n) (name_code ns)
-
-abbrev pub name_at : Gv → List ℕ
-name_at gnil = []
-name_at (gnum n) = []
-name_at (gcons a b) = num a ∷ name_at b
-
-name_back : (ns : List ℕ) → name_at (name_code ns) ≡ ns
-name_back [] = refl
-name_back (n ∷ ns) = ap (λ z. n ∷ z) (name_back ns)
 
 abbrev pub first : Gv → Gv
 first gnil = gnil

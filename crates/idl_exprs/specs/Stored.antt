@@ -1,5 +1,5 @@
 -- How the logic stores the plain tree of an expression: as a tree of numbers that gives it back.
-use Rattle.std.specs.Prelude.{◌≡◌, refl, Bool, true, false, ℕ, ◌+◌, ◌==◌, cond, nat_lt, ℤ, pos, negsuc, List, [], ◌∷◌}
+use Rattle.std.specs.Prelude.{◌≡◌, refl, Bool, true, false, ℕ, ◌+◌, ◌==◌, cond, nat_lt, List, [], ◌∷◌}
 use Rattle.std.specs.Coded.{Coded, code_by}
 use base.Stored.{Gv, gnil, gnum, gcons, num}
 use denote.Struct.Codes.{itself}
@@ -12,8 +12,9 @@ use Rattle.idl_exprs.specs.declared.tree.Identifier.{Identifier}
 use Rattle.idl_exprs.specs.declared.tree.Leaf.{Leaf}
 use Rattle.idl_exprs.specs.declared.tree.Leaf.TheVariants as L
 use Rattle.idl_exprs.specs.Trees.{Tree, leaf, unary, binary}
+use Rattle.kit_base.specs.Stored.{number_code, number_at, number_back, octets_code, octets_at, octets_back}
 
--- ---- operators, numbers, names
+-- ---- operators and names
 
 abbrev pub unary_number : UnaryOp → ℕ
 unary_number U.Minus = 10
@@ -38,32 +39,6 @@ abbrev pub binary_at : ℕ → BinaryOp
 binary_at n =
     cond (n == 20) B.Or (cond (n == 21) B.Xor (cond (n == 22) B.And (cond (n == 23) B.Left (cond (n == 24) B.Right
     (cond (n == 25) B.Add (cond (n == 26) B.Sub (cond (n == 27) B.Mul (cond (n == 28) B.Div B.Rem))))))))
-
-abbrev pub number_code : ℤ → Gv
-number_code (pos n) = gcons (gnum 0) (gnum n)
-number_code (negsuc n) = gcons (gnum 1) (gnum n)
-
-abbrev pub number_at : Gv → ℤ
-number_at gnil = pos 0
-number_at (gnum n) = pos 0
-number_at (gcons a b) = cond (num a == 0) (pos (num b)) (negsuc (num b))
-
-number_back : (n : ℤ) → number_at (number_code n) ≡ n
-number_back (pos n) = refl
-number_back (negsuc n) = refl
-
-abbrev pub octets_code : List ℕ → Gv
-octets_code [] = gnil
-octets_code (n ∷ ns) = gcons (gnum n) (octets_code ns)
-
-abbrev pub octets_at : Gv → List ℕ
-octets_at gnil = []
-octets_at (gnum n) = []
-octets_at (gcons a b) = num a ∷ octets_at b
-
-octets_back : (ns : List ℕ) → octets_at (octets_code ns) ≡ ns
-octets_back [] = refl
-octets_back (n ∷ ns) = ap (λ z. n ∷ z) (octets_back ns)
 
 abbrev pub words_code : List Identifier → Gv
 words_code [] = gnil

@@ -4,4 +4,5 @@ pub mod Decimal
 pub mod Limits
 pub mod Lines
 pub mod Memory
+pub mod Stored
 pub mod formers
