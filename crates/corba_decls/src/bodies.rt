@@ -7,12 +7,12 @@ ghost use Rattle.corba_decls.specs.MemberReaders.{structure_at, exception_at, en
 use crate::member_tree::{Enum, Exception, Member, Struct};
 use idl_exprs::Identifier;
 use idl_lex::Token;
-use idl_read::{Halt, Production, each_nested, joined, mark, some_nested, word};
+use idl_read::{Parsed, Production, each_nested, joined, mark, some_nested, word};
 use std::alloc::Global;
 
 /// A struct (`<struct_type>`) within so many levels, and the tokens after it.
 #[tactic(auto, unfolding(crate::specs::MemberReaders::structure_at))]
-pub fn structure(alloc: Global, levels: u32, tokens: &[Token]) -> Result<(Struct, &[Token]), Halt>
+pub fn structure(alloc: Global, levels: u32, tokens: &[Token]) -> Parsed<'_, Struct>
     requires { levels ≤ 32 }
     ensures { Gives (λ x. (x.0, x.1.now)) result (structure_at levels tokens.now) }
 {
@@ -27,11 +27,7 @@ pub fn structure(alloc: Global, levels: u32, tokens: &[Token]) -> Result<(Struct
 /// An exception (`<except_dcl>`) within so many levels, and the tokens after it: it does not take the `;`
 /// that ends it.
 #[tactic(auto, unfolding(crate::specs::MemberReaders::exception_at))]
-pub fn exception(
-    alloc: Global,
-    levels: u32,
-    tokens: &[Token],
-) -> Result<(Exception, &[Token]), Halt>
+pub fn exception(alloc: Global, levels: u32, tokens: &[Token]) -> Parsed<'_, Exception>
     requires { levels ≤ 32 }
     ensures { Gives (λ x. (x.0, x.1.now)) result (exception_at levels tokens.now) }
 {
@@ -45,7 +41,7 @@ pub fn exception(
 
 /// An enumeration (`<enum_type>`), and the tokens after it.
 #[tactic(auto, unfolding(crate::specs::MemberReaders::enumeration_at))]
-pub fn enumeration(alloc: Global, tokens: &[Token]) -> Result<(Enum, &[Token]), Halt>
+pub fn enumeration(alloc: Global, tokens: &[Token]) -> Parsed<'_, Enum>
     ensures { Gives (λ x. (x.0, x.1.now)) result (enumeration_at tokens.now) }
 {
     let rest = word(tokens, b"enum")?;

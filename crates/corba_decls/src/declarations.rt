@@ -10,12 +10,12 @@ use crate::unions::union;
 use crate::{Declarator, enumeration, exception, structure, type_name};
 use idl_exprs::{Identifier, expression};
 use idl_lex::Token;
-use idl_read::{Halt, Production, begins, is_word, joined_nested, mark, word};
+use idl_read::{Halt, Parsed, Production, begins, is_word, joined_nested, mark, word};
 use std::alloc::Global;
 
 /// What a typedef gives names to.
 #[tactic(auto, unfolding(crate::specs::DeclReaders::aliased_at))]
-fn aliased(alloc: Global, levels: u32, tokens: &[Token]) -> Result<(Aliased, &[Token]), Halt>
+fn aliased(alloc: Global, levels: u32, tokens: &[Token]) -> Parsed<'_, Aliased>
     requires { levels ≤ 32 }
     ensures { Gives (λ x. (x.0, x.1.now)) result (aliased_at levels tokens.now) }
 {
@@ -37,7 +37,7 @@ fn aliased(alloc: Global, levels: u32, tokens: &[Token]) -> Result<(Aliased, &[T
 
 /// A typedef within so many levels.
 #[tactic(auto, unfolding(crate::specs::DeclReaders::typedef_at))]
-fn typedef(alloc: Global, levels: u32, tokens: &[Token]) -> Result<(Typedef, &[Token]), Halt>
+fn typedef(alloc: Global, levels: u32, tokens: &[Token]) -> Parsed<'_, Typedef>
     requires { levels ≤ 32 }
     ensures { Gives (λ x. (x.0, x.1.now)) result (typedef_at levels tokens.now) }
 {
@@ -49,7 +49,7 @@ fn typedef(alloc: Global, levels: u32, tokens: &[Token]) -> Result<(Typedef, &[T
 
 /// A constant within so many levels.
 #[tactic(auto, unfolding(crate::specs::DeclReaders::constant_at))]
-fn constant(alloc: Global, levels: u32, tokens: &[Token]) -> Result<(Constant, &[Token]), Halt>
+fn constant(alloc: Global, levels: u32, tokens: &[Token]) -> Parsed<'_, Constant>
     requires { levels ≤ 32 }
     ensures { Gives (λ x. (x.0, x.1.now)) result (constant_at levels tokens.now) }
 {
@@ -63,7 +63,7 @@ fn constant(alloc: Global, levels: u32, tokens: &[Token]) -> Result<(Constant, &
 
 /// A declaration, where it has a level.
 #[tactic(auto, unfolding(crate::specs::DeclReaders::declared_at))]
-fn declared(alloc: Global, levels: u32, tokens: &[Token]) -> Result<(Declaration, &[Token]), Halt>
+fn declared(alloc: Global, levels: u32, tokens: &[Token]) -> Parsed<'_, Declaration>
     requires { levels ≤ 32 }
     ensures { Gives (λ x. (x.0, x.1.now)) result (declared_at levels tokens.now) }
 {
@@ -110,11 +110,7 @@ pub fn begins_declaration(tokens: &[Token]) -> bool
 
 /// A declaration (`<type_dcl>`, `<const_dcl>`, `<except_dcl>`) within so many levels, and the
 /// tokens after it: it does not take the `;` that ends it.
-pub fn declaration(
-    alloc: Global,
-    levels: u32,
-    tokens: &[Token],
-) -> Result<(Declaration, &[Token]), Halt>
+pub fn declaration(alloc: Global, levels: u32, tokens: &[Token]) -> Parsed<'_, Declaration>
     requires { levels ≤ 32 }
     ensures { Gives (λ x. (x.0, x.1.now)) result (declaration_at levels tokens.now) }
 {

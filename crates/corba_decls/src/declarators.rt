@@ -7,7 +7,7 @@ use crate::type_name;
 use idl_exprs::{Identifier, expression};
 use idl_lex::Token;
 use idl_read::{
-    Halt, Nested, Production, begins_mark, each_nested, joined_nested, mark, stands_before,
+    Halt, Nested, Parsed, Production, begins_mark, each_nested, joined_nested, mark, stands_before,
 };
 use std::alloc::Global;
 
@@ -23,7 +23,7 @@ impl Nested for Dimension {
     }
 
     #[tactic(auto, unfolding(crate::specs::MemberReaders::dimension_at))]
-    fn read(alloc: Global, levels: u32, tokens: &[Token]) -> Result<(Self, &[Token]), Halt> {
+    fn read(alloc: Global, levels: u32, tokens: &[Token]) -> Parsed<'_, Self> {
         let rest = mark(tokens, b"[")?;
         let (length, rest) = expression(alloc, levels, false, rest)?;
         let rest = mark(rest, b"]")?;
@@ -44,7 +44,7 @@ impl Nested for Declarator {
     }
 
     #[tactic(auto, unfolding(crate::specs::MemberReaders::declarator_at))]
-    fn read(alloc: Global, levels: u32, tokens: &[Token]) -> Result<(Self, &[Token]), Halt> {
+    fn read(alloc: Global, levels: u32, tokens: &[Token]) -> Parsed<'_, Self> {
         let (name, rest) = Identifier::read(alloc, tokens)?;
         let (dimensions, rest) = each_nested::<Dimension>(alloc, levels, rest)?;
         Ok((Declarator { name, dimensions }, rest))
@@ -64,7 +64,7 @@ impl Nested for Member {
     }
 
     #[tactic(auto, unfolding(crate::specs::MemberReaders::member_at))]
-    fn read(alloc: Global, levels: u32, tokens: &[Token]) -> Result<(Self, &[Token]), Halt> {
+    fn read(alloc: Global, levels: u32, tokens: &[Token]) -> Parsed<'_, Self> {
         let (of, rest) = type_name(alloc, levels, tokens)?;
         let (declarators, rest) = joined_nested::<Declarator>(alloc, levels, rest, b",")?;
         let rest = mark(rest, b";")?;

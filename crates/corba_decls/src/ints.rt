@@ -6,7 +6,7 @@ ghost use Rattle.corba_decls.specs.TypeReaders.{is_int, size_at, int_at};
 
 use crate::type_tree::{Int, IntSize};
 use idl_lex::Token;
-use idl_read::{Halt, begins, is_word, word};
+use idl_read::{Halt, Parsed, begins, is_word, word};
 
 /// Whether a word comes first that begins an integer type.
 pub fn begins_int(tokens: &[Token]) -> bool
@@ -21,7 +21,7 @@ pub fn begins_int(tokens: &[Token]) -> bool
 }
 
 /// The size of an integer type.
-fn size(tokens: &[Token]) -> Result<(IntSize, &[Token]), Halt>
+fn size(tokens: &[Token]) -> Parsed<'_, IntSize>
     ensures read { Gives (λ x. (x.0, x.1.now)) result (size_at tokens.now) }
     ensures fault { IfErr result (λ e. e ≡ Halt.Syntax) }
 {
@@ -39,7 +39,7 @@ fn size(tokens: &[Token]) -> Result<(IntSize, &[Token]), Halt>
 
 /// An integer type.
 #[tactic(auto, unfolding(crate::specs::TypeReaders::int_at))]
-pub fn int(tokens: &[Token]) -> Result<(Int, &[Token]), Halt>
+pub fn int(tokens: &[Token]) -> Parsed<'_, Int>
     ensures read { Gives (λ x. (x.0, x.1.now)) result (int_at tokens.now) }
     ensures fault { IfErr result (λ e. e ≡ Halt.Syntax) }
 {

@@ -6,7 +6,7 @@ ghost use Rattle.corba_decls.specs.TypeReaders.{simple_in, is_simple, is_long_do
 
 use crate::type_tree::Simple;
 use idl_lex::Token;
-use idl_read::{Halt, begins, is_mark, is_word};
+use idl_read::{Halt, Parsed, begins, is_mark, is_word};
 
 /// The type of one word that a token is.
 fn simple_of(token: &Token) -> Option<Simple>
@@ -46,7 +46,7 @@ pub(crate) fn begins_simple(tokens: &[Token]) -> bool
 }
 
 /// A type of one word.
-pub(crate) fn simple(tokens: &[Token]) -> Result<(Simple, &[Token]), Halt>
+pub(crate) fn simple(tokens: &[Token]) -> Parsed<'_, Simple>
     ensures read { Gives (λ x. (x.0, x.1.now)) result (token_at simple_in tokens.now) }
     ensures fault { IfErr result (λ e. e ≡ Halt.Syntax) }
 {
@@ -70,7 +70,7 @@ pub(crate) fn begins_long_double(tokens: &[Token]) -> bool
 }
 
 /// The mark that ends a string or a sequence, and whether it ends the sequence around it too.
-pub(crate) fn close(tokens: &[Token]) -> Result<(bool, &[Token]), Halt>
+pub(crate) fn close(tokens: &[Token]) -> Parsed<'_, bool>
     ensures read { Gives (λ x. (x.0, x.1.now)) result (token_at close_in tokens.now) }
     ensures fault { IfErr result (λ e. e ≡ Halt.Syntax) }
 {

@@ -8,12 +8,12 @@ use crate::decl_tree::{ConstantType, Tag};
 use crate::{begins_int, int};
 use idl_exprs::scoped;
 use idl_lex::Token;
-use idl_read::{Halt, begins, word};
+use idl_read::{Halt, Parsed, begins, word};
 use std::alloc::Global;
 
 /// The type of a discriminator.
 #[tactic(auto, unfolding(crate::specs::DeclReaders::tag_type_at))]
-fn tag_type(alloc: Global, tokens: &[Token]) -> Result<(Tag, &[Token]), Halt>
+fn tag_type(alloc: Global, tokens: &[Token]) -> Parsed<'_, Tag>
     ensures { Gives (λ x. (x.0, x.1.now)) result (tag_type_at tokens.now) }
 {
     if begins(tokens, b"char") {
@@ -33,7 +33,7 @@ fn tag_type(alloc: Global, tokens: &[Token]) -> Result<(Tag, &[Token]), Halt>
 }
 
 /// The type of a discriminator, where it has a level.
-pub(crate) fn tag(alloc: Global, levels: u32, tokens: &[Token]) -> Result<(Tag, &[Token]), Halt>
+pub(crate) fn tag(alloc: Global, levels: u32, tokens: &[Token]) -> Parsed<'_, Tag>
     ensures { Gives (λ x. (x.0, x.1.now)) result (tag_at levels tokens.now) }
 {
     if levels == 0 {
@@ -44,10 +44,7 @@ pub(crate) fn tag(alloc: Global, levels: u32, tokens: &[Token]) -> Result<(Tag, 
 
 /// The type of a constant.
 #[tactic(auto, unfolding(crate::specs::DeclReaders::constant_type_at))]
-pub(crate) fn constant_type(
-    alloc: Global,
-    tokens: &[Token],
-) -> Result<(ConstantType, &[Token]), Halt>
+pub(crate) fn constant_type(alloc: Global, tokens: &[Token]) -> Parsed<'_, ConstantType>
     ensures { Gives (λ x. (x.0, x.1.now)) result (constant_type_at tokens.now) }
 {
     if begins(tokens, b"char") {

@@ -9,12 +9,12 @@ use crate::simple::{begins_long_double, begins_simple, close, simple};
 use crate::type_tree::{Base, TypeName};
 use idl_exprs::{Expr, expression, scoped};
 use idl_lex::Token;
-use idl_read::{Halt, begins, begins_mark, mark, word};
+use idl_read::{Halt, Parsed, begins, begins_mark, mark, word};
 use std::alloc::Global;
 
 /// A type that is not a sequence or a string.
 #[tactic(auto, unfolding(crate::specs::TypeReaders::plain_at))]
-fn plain(alloc: Global, tokens: &[Token]) -> Result<(Base, &[Token]), Halt>
+fn plain(alloc: Global, tokens: &[Token]) -> Parsed<'_, Base>
     ensures { Gives (λ x. (x.0, x.1.now)) result (plain_at tokens.now) }
 {
     if begins_simple(tokens) {
@@ -120,7 +120,7 @@ fn shared(alloc: Global, levels: u32, tokens: &[Token]) -> Result<(TypeName, boo
 
 /// A type (`<type_spec>`) within so many levels, and the tokens after it.
 #[tactic(auto, unfolding(crate::specs::TypeReaders::type_at))]
-pub fn type_name(alloc: Global, levels: u32, tokens: &[Token]) -> Result<(TypeName, &[Token]), Halt>
+pub fn type_name(alloc: Global, levels: u32, tokens: &[Token]) -> Parsed<'_, TypeName>
     requires { levels ≤ 32 }
     ensures { Gives (λ x. (x.0, x.1.now)) result (type_at levels tokens.now) }
 {

@@ -9,7 +9,7 @@ use crate::tags::tag;
 use crate::{Declarator, type_name};
 use idl_exprs::{Identifier, expression};
 use idl_lex::Token;
-use idl_read::{Halt, Nested, Production, begins, mark, some_nested, stands_before, word};
+use idl_read::{Nested, Parsed, Production, begins, mark, some_nested, stands_before, word};
 use std::alloc::Global;
 
 impl Nested for Label {
@@ -24,7 +24,7 @@ impl Nested for Label {
     }
 
     #[tactic(auto, unfolding(crate::specs::DeclReaders::label_at))]
-    fn read(alloc: Global, levels: u32, tokens: &[Token]) -> Result<(Self, &[Token]), Halt> {
+    fn read(alloc: Global, levels: u32, tokens: &[Token]) -> Parsed<'_, Self> {
         if begins(tokens, b"case") {
             let rest = word(tokens, b"case")?;
             let (value, rest) = expression(alloc, levels, false, rest)?;
@@ -50,7 +50,7 @@ impl Nested for Case {
     }
 
     #[tactic(auto, unfolding(crate::specs::DeclReaders::case_at))]
-    fn read(alloc: Global, levels: u32, tokens: &[Token]) -> Result<(Self, &[Token]), Halt> {
+    fn read(alloc: Global, levels: u32, tokens: &[Token]) -> Parsed<'_, Self> {
         let (labels, rest) = some_nested::<Label>(alloc, levels, tokens)?;
         let (of, rest) = type_name(alloc, levels, rest)?;
         let (declarator, rest) = Declarator::read(alloc, levels, rest)?;
@@ -68,7 +68,7 @@ impl Nested for Case {
 
 /// A union within so many levels. Its tag, in parentheses, has one level less.
 #[tactic(auto, unfolding(crate::specs::DeclReaders::union_at))]
-pub(crate) fn union(alloc: Global, levels: u32, tokens: &[Token]) -> Result<(Union, &[Token]), Halt>
+pub(crate) fn union(alloc: Global, levels: u32, tokens: &[Token]) -> Parsed<'_, Union>
     requires { levels ≤ 32 }
     ensures { Gives (λ x. (x.0, x.1.now)) result (union_at levels tokens.now) }
 {

@@ -9,7 +9,7 @@ use crate::optional::word_flag;
 use corba_decls::type_name;
 use idl_exprs::Identifier;
 use idl_lex::Token;
-use idl_read::{Halt, is_word, joined, word};
+use idl_read::{Parsed, is_word, joined, word};
 use std::alloc::Global;
 
 /// Whether a word comes first that begins attributes.
@@ -24,11 +24,7 @@ pub fn begins_attribute(tokens: &[Token]) -> bool
 
 /// Attributes of one type (`<attr_dcl>`) within so many levels, and the tokens after them.
 #[tactic(auto, unfolding(crate::specs::OperationReaders::attribute_at))]
-pub fn attribute(
-    alloc: Global,
-    levels: u32,
-    tokens: &[Token],
-) -> Result<(Attribute, &[Token]), Halt>
+pub fn attribute(alloc: Global, levels: u32, tokens: &[Token]) -> Parsed<'_, Attribute>
     requires { levels ≤ 32 }
     ensures { Gives (λ x. (x.0, x.1.now)) result (attribute_at levels tokens.now) }
 {

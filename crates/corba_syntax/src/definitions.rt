@@ -10,12 +10,12 @@ use crate::interface;
 use corba_decls::{Declaration, declaration};
 use idl_exprs::Identifier;
 use idl_lex::Token;
-use idl_read::{Halt, Production, begins, mark, stands_before, word};
+use idl_read::{Halt, Parsed, Production, begins, mark, stands_before, word};
 use kit_base::Listed;
 use std::alloc::Global;
 
 /// A declaration within so many levels, and its `;`.
-fn declared(alloc: Global, levels: u32, tokens: &[Token]) -> Result<(Declaration, &[Token]), Halt>
+fn declared(alloc: Global, levels: u32, tokens: &[Token]) -> Parsed<'_, Declaration>
     requires { levels ≤ 32 }
     ensures { Gives (λ x. (x.0, x.1.now)) result (declared_at levels tokens.now) }
 {
@@ -26,11 +26,7 @@ fn declared(alloc: Global, levels: u32, tokens: &[Token]) -> Result<(Declaration
 
 /// As many definitions within so many levels as come before a `}`.
 #[cycle(definition)]
-fn definitions(
-    alloc: Global,
-    levels: u32,
-    tokens: &[Token],
-) -> Result<(Listed<Definition>, &[Token]), Halt>
+fn definitions(alloc: Global, levels: u32, tokens: &[Token]) -> Parsed<'_, Listed<Definition>>
     requires { levels ≤ 32 }
     ensures { Gives (λ x. (x.0, x.1.now)) result (many is_open (definition_at levels) tokens.now) }
 {
@@ -53,7 +49,7 @@ fn definitions(
 
 /// A module, with so many levels below it.
 #[cycle(definition)]
-fn module(alloc: Global, below: u32, tokens: &[Token]) -> Result<(Module, &[Token]), Halt>
+fn module(alloc: Global, below: u32, tokens: &[Token]) -> Parsed<'_, Module>
     requires { below < 32 }
     ensures { Gives (λ x. (x.0, x.1.now)) result (module_at (definition_at below) tokens.now) }
 {
@@ -68,7 +64,7 @@ fn module(alloc: Global, below: u32, tokens: &[Token]) -> Result<(Module, &[Toke
 
 /// A definition within so many levels and one more.
 #[cycle(definition)]
-fn above(alloc: Global, below: u32, tokens: &[Token]) -> Result<(Definition, &[Token]), Halt>
+fn above(alloc: Global, below: u32, tokens: &[Token]) -> Parsed<'_, Definition>
     requires { below < 32 }
     ensures { Gives (λ x. (x.0, x.1.now)) result
         (definition_by (definition_at below) (below + 1) tokens.now) }
@@ -87,7 +83,7 @@ fn above(alloc: Global, below: u32, tokens: &[Token]) -> Result<(Definition, &[T
 
 /// A definition within so many levels.
 #[cycle(definition)]
-fn definition(alloc: Global, levels: u32, tokens: &[Token]) -> Result<(Definition, &[Token]), Halt>
+fn definition(alloc: Global, levels: u32, tokens: &[Token]) -> Parsed<'_, Definition>
     requires { levels ≤ 32 }
     ensures { Gives (λ x. (x.0, x.1.now)) result (definition_at levels tokens.now) }
 {
@@ -99,7 +95,7 @@ fn definition(alloc: Global, levels: u32, tokens: &[Token]) -> Result<(Definitio
 
 /// A definition of a file.
 #[tactic(auto, unfolding(crate::specs::DefinitionReaders::outermost_at))]
-pub(crate) fn outermost(alloc: Global, tokens: &[Token]) -> Result<(Definition, &[Token]), Halt>
+pub(crate) fn outermost(alloc: Global, tokens: &[Token]) -> Parsed<'_, Definition>
     ensures { Gives (λ x. (x.0, x.1.now)) result (outermost_at tokens.now) }
 {
     definition(alloc, 32, tokens)

@@ -8,12 +8,12 @@ use crate::interface_tree::Export;
 use crate::{attribute, begins_attribute, operation};
 use corba_decls::{begins_declaration, declaration};
 use idl_lex::Token;
-use idl_read::{Halt, Nested, mark, stands_before};
+use idl_read::{Nested, Parsed, mark, stands_before};
 use std::alloc::Global;
 
 /// What is declared, without the `;` that ends it.
 #[tactic(auto, unfolding(crate::specs::InterfaceReaders::exported_at))]
-fn exported(alloc: Global, levels: u32, tokens: &[Token]) -> Result<(Export, &[Token]), Halt>
+fn exported(alloc: Global, levels: u32, tokens: &[Token]) -> Parsed<'_, Export>
     requires { levels ≤ 32 }
     ensures { Gives (λ x. (x.0, x.1.now)) result (exported_at levels tokens.now) }
 {
@@ -42,7 +42,7 @@ impl Nested for Export {
     }
 
     #[tactic(auto, unfolding(crate::specs::InterfaceReaders::export_at))]
-    fn read(alloc: Global, levels: u32, tokens: &[Token]) -> Result<(Self, &[Token]), Halt> {
+    fn read(alloc: Global, levels: u32, tokens: &[Token]) -> Parsed<'_, Self> {
         let (item, rest) = exported(alloc, levels, tokens)?;
         let rest = mark(rest, b";")?;
         Ok((item, rest))

@@ -5,7 +5,7 @@ ghost use Rattle.std.specs.Prelude.{◌≡◌, ◌≤◌};
 use crate::operation_tree::Reference;
 use idl_exprs::scoped;
 use idl_lex::Token;
-use idl_read::{Halt, Nested, begins_mark};
+use idl_read::{Halt, Nested, Parsed, begins_mark};
 use std::alloc::Global;
 
 impl Nested for Reference {
@@ -19,7 +19,7 @@ impl Nested for Reference {
         begins_mark(tokens, b",")
     }
 
-    fn read(alloc: Global, levels: u32, tokens: &[Token]) -> Result<(Self, &[Token]), Halt> {
+    fn read(alloc: Global, levels: u32, tokens: &[Token]) -> Parsed<'_, Self> {
         if levels == 0 {
             return Err(Halt::Syntax);
         }

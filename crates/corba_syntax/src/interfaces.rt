@@ -8,17 +8,13 @@ use crate::Reference;
 use crate::interface_tree::{Export, Interface};
 use idl_exprs::Identifier;
 use idl_lex::Token;
-use idl_read::{Halt, Production, begins_mark, each_nested, joined_nested, mark, word};
+use idl_read::{Parsed, Production, begins_mark, each_nested, joined_nested, mark, word};
 use kit_base::Listed;
 use std::alloc::Global;
 
 /// The interfaces that are inherited from (`<inheritance_spec>`); none where no `:` comes first.
 #[tactic(auto, unfolding(crate::specs::InterfaceReaders::bases_at))]
-fn bases(
-    alloc: Global,
-    levels: u32,
-    tokens: &[Token],
-) -> Result<(Listed<Reference>, &[Token]), Halt>
+fn bases(alloc: Global, levels: u32, tokens: &[Token]) -> Parsed<'_, Listed<Reference>>
     requires { levels ≤ 32 }
     ensures { Gives (λ x. (x.0, x.1.now)) result (bases_at levels tokens.now) }
 {
@@ -32,11 +28,7 @@ fn bases(
 
 /// An interface (`<interface_dcl>`) within so many levels and its `;`, and the tokens after them.
 #[tactic(auto, unfolding(crate::specs::InterfaceReaders::interface_at))]
-pub fn interface(
-    alloc: Global,
-    levels: u32,
-    tokens: &[Token],
-) -> Result<(Interface, &[Token]), Halt>
+pub fn interface(alloc: Global, levels: u32, tokens: &[Token]) -> Parsed<'_, Interface>
     requires { levels ≤ 32 }
     ensures { Gives (λ x. (x.0, x.1.now)) result (interface_at levels tokens.now) }
 {

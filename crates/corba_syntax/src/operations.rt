@@ -10,8 +10,8 @@ use corba_decls::{TypeName, type_name};
 use idl_exprs::Identifier;
 use idl_lex::Token;
 use idl_read::{
-    Halt, Nested, Production, begins, begins_mark, is_word, joined_nested, mark, stands_before,
-    word,
+    Halt, Nested, Parsed, Production, begins, begins_mark, is_word, joined_nested, mark,
+    stands_before, word,
 };
 use kit_base::Listed;
 use std::alloc::Global;
@@ -32,7 +32,7 @@ fn direction_of(token: &Token) -> Option<Direction>
 }
 
 /// A direction.
-fn direction(tokens: &[Token]) -> Result<(Direction, &[Token]), Halt>
+fn direction(tokens: &[Token]) -> Parsed<'_, Direction>
     ensures read { Gives (λ x. (x.0, x.1.now)) result (token_at direction_in tokens.now) }
     ensures fault { IfErr result (λ e. e ≡ Halt.Syntax) }
 {
@@ -57,7 +57,7 @@ impl Nested for Parameter {
     }
 
     #[tactic(auto, unfolding(crate::specs::OperationReaders::parameter_at))]
-    fn read(alloc: Global, levels: u32, tokens: &[Token]) -> Result<(Self, &[Token]), Halt> {
+    fn read(alloc: Global, levels: u32, tokens: &[Token]) -> Parsed<'_, Self> {
         let (direction, rest) = direction(tokens)?;
         let (of, rest) = type_name(alloc, levels, rest)?;
         let (name, rest) = Identifier::read(alloc, rest)?;
@@ -74,11 +74,7 @@ impl Nested for Parameter {
 
 /// The parameters in their parentheses.
 #[tactic(auto, unfolding(crate::specs::OperationReaders::parameters_at))]
-fn parameters(
-    alloc: Global,
-    levels: u32,
-    tokens: &[Token],
-) -> Result<(Listed<Parameter>, &[Token]), Halt>
+fn parameters(alloc: Global, levels: u32, tokens: &[Token]) -> Parsed<'_, Listed<Parameter>>
     requires { levels ≤ 32 }
     ensures { Gives (λ x. (x.0, x.1.now)) result (parameters_at levels tokens.now) }
 {
@@ -94,11 +90,7 @@ fn parameters(
 
 /// The exceptions that are raised (`<raises_expr>`); none where `raises` does not come first.
 #[tactic(auto, unfolding(crate::specs::OperationReaders::raises_at))]
-fn raises(
-    alloc: Global,
-    levels: u32,
-    tokens: &[Token],
-) -> Result<(Listed<Reference>, &[Token]), Halt>
+fn raises(alloc: Global, levels: u32, tokens: &[Token]) -> Parsed<'_, Listed<Reference>>
     requires { levels ≤ 32 }
     ensures { Gives (λ x. (x.0, x.1.now)) result (raises_at levels tokens.now) }
 {
@@ -114,11 +106,7 @@ fn raises(
 
 /// The type of a result, or `void`.
 #[tactic(auto, unfolding(crate::specs::OperationReaders::result_at))]
-fn result_type(
-    alloc: Global,
-    levels: u32,
-    tokens: &[Token],
-) -> Result<(Option<TypeName>, &[Token]), Halt>
+fn result_type(alloc: Global, levels: u32, tokens: &[Token]) -> Parsed<'_, Option<TypeName>>
     requires { levels ≤ 32 }
     ensures { Gives (λ x. (x.0, x.1.now)) result (result_at levels tokens.now) }
 {
@@ -133,11 +121,7 @@ fn result_type(
 /// An operation (`<op_dcl>`) within so many levels, and the tokens after it. What is in its parentheses has
 /// one level less.
 #[tactic(auto, unfolding(crate::specs::OperationReaders::operation_at))]
-pub fn operation(
-    alloc: Global,
-    levels: u32,
-    tokens: &[Token],
-) -> Result<(Operation, &[Token]), Halt>
+pub fn operation(alloc: Global, levels: u32, tokens: &[Token]) -> Parsed<'_, Operation>
     requires { levels ≤ 32 }
     ensures { Gives (λ x. (x.0, x.1.now)) result (operation_at levels tokens.now) }
 {

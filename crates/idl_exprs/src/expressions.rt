@@ -9,19 +9,14 @@ use crate::leaves::leaf_by;
 use crate::operators::{begins_sign, operator, past, unary};
 use crate::tree::Expr;
 use idl_lex::Token;
-use idl_read::{Halt, begins_mark, mark};
+use idl_read::{Halt, Parsed, begins_mark, mark};
 use std::alloc::Global;
 
 /// An expression of CORBA (`<const_exp>`) within so many levels, and the tokens after it.
 ///
 /// Between `<` and `>` (`angle`) a `>>` after which a type is whole ends the expression.
 #[tactic(auto, unfolding(crate::specs::Readers::expression_at))]
-pub fn expression(
-    alloc: Global,
-    levels: u32,
-    angle: bool,
-    tokens: &[Token],
-) -> Result<(Expr, &[Token]), Halt>
+pub fn expression(alloc: Global, levels: u32, angle: bool, tokens: &[Token]) -> Parsed<'_, Expr>
     requires { levels ≤ 32 }
     ensures { Gives (λ x. (x.0, x.1.now)) result (expression_at levels angle tokens.now) }
 {
@@ -31,11 +26,7 @@ pub fn expression(
 
 /// An expression of MIG within so many levels, and the tokens after it.
 #[tactic(auto, unfolding(crate::specs::Readers::mig_expression_at))]
-pub fn mig_expression(
-    alloc: Global,
-    levels: u32,
-    tokens: &[Token],
-) -> Result<(Expr, &[Token]), Halt>
+pub fn mig_expression(alloc: Global, levels: u32, tokens: &[Token]) -> Parsed<'_, Expr>
     requires { levels ≤ 32 }
     ensures { Gives (λ x. (x.0, x.1.now)) result (mig_expression_at levels tokens.now) }
 {

@@ -8,7 +8,7 @@ use crate::languages::Language;
 use crate::names::scoped;
 use crate::tree::Leaf;
 use idl_lex::{Token, TokenKind};
-use idl_read::{Halt, is_word, number};
+use idl_read::{Halt, Parsed, is_word, number};
 use kit_base::Octets;
 use std::alloc::Global;
 
@@ -34,7 +34,7 @@ fn begins_literal(tokens: &[Token]) -> bool
 }
 
 /// A literal.
-fn literal(alloc: Global, tokens: &[Token]) -> Result<(Leaf, &[Token]), Halt>
+fn literal(alloc: Global, tokens: &[Token]) -> Parsed<'_, Leaf>
     ensures { Gives (λ x. (x.0, x.1.now)) result (token_at literal_in tokens.now) }
 {
     match tokens {
@@ -61,7 +61,7 @@ fn literal(alloc: Global, tokens: &[Token]) -> Result<(Leaf, &[Token]), Halt>
 
 /// A literal or a name.
 #[tactic(auto, unfolding(crate::specs::Readers::leaf_at))]
-fn leaf(alloc: Global, tokens: &[Token]) -> Result<(Leaf, &[Token]), Halt>
+fn leaf(alloc: Global, tokens: &[Token]) -> Parsed<'_, Leaf>
     ensures { Gives (λ x. (x.0, x.1.now)) result (leaf_at tokens.now) }
 {
     if begins_literal(tokens) {
@@ -72,11 +72,7 @@ fn leaf(alloc: Global, tokens: &[Token]) -> Result<(Leaf, &[Token]), Halt>
 }
 
 /// A leaf of the language: a literal or a name, or a number alone.
-pub(crate) fn leaf_by(
-    alloc: Global,
-    language: Language,
-    tokens: &[Token],
-) -> Result<(Leaf, &[Token]), Halt>
+pub(crate) fn leaf_by(alloc: Global, language: Language, tokens: &[Token]) -> Parsed<'_, Leaf>
     ensures { Gives (λ x. (x.0, x.1.now)) result (leaf_by language tokens.now) }
 {
     match language {

@@ -7,7 +7,7 @@ ghost use Rattle.idl_exprs.specs.Readers.{is_identifier, scoped_at};
 
 use crate::tree::{Identifier, ScopedName};
 use idl_lex::Token;
-use idl_read::{Halt, Production, begins_id, flag, id, joined};
+use idl_read::{Parsed, Production, begins_id, flag, id, joined};
 use kit_base::{Name, NoMemory};
 use std::alloc::Global;
 
@@ -73,7 +73,7 @@ impl Production for Identifier {
     ghost at = { identifier_at };
 
     #[tactic(auto, unfolding(crate::specs::Readers::identifier_at))]
-    fn read(alloc: Global, tokens: &[Token]) -> Result<(Self, &[Token]), Halt> {
+    fn read(alloc: Global, tokens: &[Token]) -> Parsed<'_, Self> {
         let (name, rest) = id(alloc, tokens, &WORDS)?;
         let name = plain(alloc, name)?;
         Ok((Identifier { name }, rest))
@@ -82,7 +82,7 @@ impl Production for Identifier {
 
 /// A scoped name (`<scoped_name>`), and the tokens after it.
 #[tactic(auto, unfolding(crate::specs::Readers::scoped_at))]
-pub fn scoped(alloc: Global, tokens: &[Token]) -> Result<(ScopedName, &[Token]), Halt>
+pub fn scoped(alloc: Global, tokens: &[Token]) -> Parsed<'_, ScopedName>
     ensures { Gives (λ x. (x.0, x.1.now)) result (scoped_at tokens.now) }
 {
     let (absolute, rest) = flag(tokens, b"::");

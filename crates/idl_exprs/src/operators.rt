@@ -9,7 +9,7 @@ use crate::languages::{Language, has, has_signs};
 use crate::names::begins_identifier;
 use idl_const::{BinaryOp, UnaryOp};
 use idl_lex::{Token, TokenKind};
-use idl_read::{Halt, is_mark};
+use idl_read::{Halt, Parsed, is_mark};
 
 /// The operator before an operand that a token is.
 fn unary_of(token: &Token) -> Option<UnaryOp>
@@ -36,7 +36,7 @@ pub(crate) fn begins_sign(language: Language, tokens: &[Token]) -> bool
 }
 
 /// An operator before an operand.
-pub(crate) fn unary(tokens: &[Token]) -> Result<(UnaryOp, &[Token]), Halt>
+pub(crate) fn unary(tokens: &[Token]) -> Parsed<'_, UnaryOp>
     ensures read { Gives (λ x. (x.0, x.1.now)) result (token_at unary_in tokens.now) }
     ensures fault { IfErr result (λ e. e ≡ Halt.Syntax) }
 {

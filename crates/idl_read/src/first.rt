@@ -3,7 +3,7 @@
 ghost use Rattle.std.specs.Prelude.{◌≡◌, map, Some, IfErr};
 ghost use Rattle.idl_read.specs.Reading.{Gives, begins_with, begins_other, word_is, mark_is, word_at, mark_at, number_at, is_in, id_at, is_id, flag_at};
 
-use crate::Halt;
+use crate::{Halt, Parsed};
 use idl_lex::{Token, TokenKind};
 use kit_base::Name;
 use std::alloc::Global;
@@ -81,7 +81,7 @@ pub fn mark<'a>(tokens: &'a [Token], mark: &[u8]) -> Result<&'a [Token], Halt>
 }
 
 /// The number, and what follows it.
-pub fn number(tokens: &[Token]) -> Result<(i128, &[Token]), Halt>
+pub fn number(tokens: &[Token]) -> Parsed<'_, i128>
     ensures read { Gives (λ x. (x.0, x.1.now)) result (number_at tokens.now) }
     ensures fault { IfErr result (λ e. e ≡ Halt.Syntax) }
 {
@@ -110,11 +110,7 @@ fn is_one(name: &[u8], words: &[&[u8]]) -> bool
 }
 
 /// A name that is none of the words, and what follows it.
-pub fn id<'a>(
-    alloc: Global,
-    tokens: &'a [Token],
-    words: &[&[u8]],
-) -> Result<(Name, &'a [Token]), Halt>
+pub fn id<'a>(alloc: Global, tokens: &'a [Token], words: &[&[u8]]) -> Parsed<'a, Name>
     ensures { Gives (λ x. (x.0, x.1.now)) result (id_at (map (λ w. w.now) words.now) tokens.now) }
 {
     match tokens {

@@ -3,6 +3,7 @@
 ghost use Rattle.std.specs.Prelude.{◌≡◌};
 ghost use Rattle.idl_read.specs.declared.halt.Halt.TheVariants.{NoMemory as OutOfMemory};
 
+use idl_lex::Token;
 use kit_base::NoMemory;
 use std::alloc::{AllocFailed, Global};
 
@@ -14,6 +15,9 @@ pub enum Halt {
     /// No memory was there.
     NoMemory,
 }
+
+/// A tree that begins tokens, and the tokens after it; or why there is none.
+pub type Parsed<'a, T> = Result<(T, &'a [Token]), Halt>;
 
 impl From<NoMemory> for Halt {
     ghost from_gives = { λ _ e. e ≡ OutOfMemory };

@@ -3,7 +3,7 @@
 ghost use Rattle.std.specs.Prelude.{◌≡◌};
 ghost use Rattle.idl_read.specs.Reading.{Gives, after, mark_at, joined_at, until_at, while_at, some_at};
 
-use crate::{Halt, begins, begins_mark, mark, stands_before};
+use crate::{Halt, Parsed, begins, begins_mark, mark, stands_before};
 use idl_lex::Token;
 use kit_base::Listed;
 use std::alloc::Global;
@@ -16,7 +16,7 @@ pub trait Production: Sized + Drop {
     ghost at: { List Token → Option (Self × List Token) };
 
     /// The tree, and the tokens after it.
-    fn read(alloc: Global, tokens: &[Token]) -> Result<(Self, &[Token]), Halt>
+    fn read(alloc: Global, tokens: &[Token]) -> Parsed<'_, Self>
         ensures { Gives (λ x. (x.0, x.1.now)) result (at tokens.now) };
 }
 
@@ -25,7 +25,7 @@ pub fn after_mark<'a, T: Production>(
     alloc: Global,
     tokens: &'a [Token],
     lead: &[u8],
-) -> Result<(T, &'a [Token]), Halt>
+) -> Parsed<'a, T>
     ensures { Gives (λ x. (x.0, x.1.now)) result (after (mark_at lead.now) T.at tokens.now) }
 {
     let rest = mark(tokens, lead)?;
@@ -37,7 +37,7 @@ pub fn joined<'a, T: Production>(
     alloc: Global,
     tokens: &'a [Token],
     between: &[u8],
-) -> Result<(Listed<T>, &'a [Token]), Halt>
+) -> Parsed<'a, Listed<T>>
     ensures { Gives (λ x. (x.0, x.1.now)) result (joined_at between.now T.at tokens.now) }
 {
     let (first, mut rest) = T::read(alloc, tokens)?;
@@ -59,7 +59,7 @@ pub fn until<'a, T: Production>(
     alloc: Global,
     tokens: &'a [Token],
     close: &[u8],
-) -> Result<(Listed<T>, &'a [Token]), Halt>
+) -> Parsed<'a, Listed<T>>
     ensures { Gives (λ x. (x.0, x.1.now)) result (until_at close.now T.at tokens.now) }
 {
     let mut items = Listed::new(alloc);
@@ -80,7 +80,7 @@ pub fn while_word<'a, T: Production>(
     alloc: Global,
     tokens: &'a [Token],
     word: &[u8],
-) -> Result<(Listed<T>, &'a [Token]), Halt>
+) -> Parsed<'a, Listed<T>>
     ensures { Gives (λ x. (x.0, x.1.now)) result (while_at word.now T.at tokens.now) }
 {
     let mut items = Listed::new(alloc);
@@ -101,7 +101,7 @@ pub fn some_until<'a, T: Production>(
     alloc: Global,
     tokens: &'a [Token],
     close: &[u8],
-) -> Result<(Listed<T>, &'a [Token]), Halt>
+) -> Parsed<'a, Listed<T>>
     ensures { Gives (λ x. (x.0, x.1.now)) result (some_at (until_at close.now T.at) tokens.now) }
 {
     let (items, rest) = until(alloc, tokens, close)?;
@@ -116,7 +116,7 @@ pub fn some_while<'a, T: Production>(
     alloc: Global,
     tokens: &'a [Token],
     word: &[u8],
-) -> Result<(Listed<T>, &'a [Token]), Halt>
+) -> Parsed<'a, Listed<T>>
     ensures { Gives (λ x. (x.0, x.1.now)) result (some_at (while_at word.now T.at) tokens.now) }
 {
     let (items, rest) = while_word(alloc, tokens, word)?;

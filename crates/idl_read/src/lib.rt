@@ -11,6 +11,6 @@ pub use errors::SyntaxErr;
 pub use first::{
     begins, begins_id, begins_mark, flag, id, is_mark, is_word, mark, number, stands_before, word,
 };
-pub use halt::Halt;
+pub use halt::{Halt, Parsed};
 pub use items::{Production, after_mark, joined, some_until, some_while, until, while_word};
 pub use nested::{Nested, each_nested, joined_nested, some_nested};

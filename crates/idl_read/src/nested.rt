@@ -3,7 +3,7 @@
 ghost use Rattle.std.specs.Prelude.{◌≡◌, ◌≤◌};
 ghost use Rattle.idl_read.specs.Reading.{Gives, after, mark_at, joined_at, many, some_at};
 
-use crate::{Halt, begins_mark, mark};
+use crate::{Halt, Parsed, begins_mark, mark};
 use idl_lex::Token;
 use kit_base::Listed;
 use std::alloc::Global;
@@ -23,17 +23,13 @@ pub trait Nested: Sized + Drop {
         ensures { result ≡ goes tokens.now };
 
     /// The tree, and the tokens after it.
-    fn read(alloc: Global, levels: u32, tokens: &[Token]) -> Result<(Self, &[Token]), Halt>
+    fn read(alloc: Global, levels: u32, tokens: &[Token]) -> Parsed<'_, Self>
         requires { levels ≤ 32 }
         ensures { Gives (λ x. (x.0, x.1.now)) result (within levels tokens.now) };
 }
 
 /// As many as come next.
-pub fn each_nested<T: Nested>(
-    alloc: Global,
-    levels: u32,
-    tokens: &[Token],
-) -> Result<(Listed<T>, &[Token]), Halt>
+pub fn each_nested<T: Nested>(alloc: Global, levels: u32, tokens: &[Token]) -> Parsed<'_, Listed<T>>
     requires { levels ≤ 32 }
     ensures { Gives (λ x. (x.0, x.1.now)) result (many T.goes (T.within levels) tokens.now) }
 {
@@ -51,11 +47,7 @@ pub fn each_nested<T: Nested>(
 }
 
 /// One or more.
-pub fn some_nested<T: Nested>(
-    alloc: Global,
-    levels: u32,
-    tokens: &[Token],
-) -> Result<(Listed<T>, &[Token]), Halt>
+pub fn some_nested<T: Nested>(alloc: Global, levels: u32, tokens: &[Token]) -> Parsed<'_, Listed<T>>
     requires { levels ≤ 32 }
     ensures { Gives (λ x. (x.0, x.1.now)) result (some_at (many T.goes (T.within levels)) tokens.now) }
 {
@@ -72,7 +64,7 @@ fn nested_after<'a, T: Nested>(
     levels: u32,
     tokens: &'a [Token],
     lead: &[u8],
-) -> Result<(T, &'a [Token]), Halt>
+) -> Parsed<'a, T>
     requires { levels ≤ 32 }
     ensures { Gives (λ x. (x.0, x.1.now)) result (after (mark_at lead.now) (T.within levels) tokens.now) }
 {
@@ -86,7 +78,7 @@ pub fn joined_nested<'a, T: Nested>(
     levels: u32,
     tokens: &'a [Token],
     between: &[u8],
-) -> Result<(Listed<T>, &'a [Token]), Halt>
+) -> Parsed<'a, Listed<T>>
     requires { levels ≤ 32 }
     ensures { Gives (λ x. (x.0, x.1.now)) result (joined_at between.now (T.within levels) tokens.now) }
 {

@@ -8,7 +8,7 @@ ghost use Rattle.mig_syntax.specs.StatementReaders.{direction_words, routine_wor
 use crate::tree::{Direction, Parameter, Routine};
 use crate::words::{identifier, is_like};
 use idl_lex::Token;
-use idl_read::{Halt, Production, joined, mark};
+use idl_read::{Halt, Parsed, Production, joined, mark};
 use std::alloc::Global;
 
 /// The direction that a token is.
@@ -39,7 +39,7 @@ fn begins_direction(tokens: &[Token]) -> bool
 }
 
 /// A direction.
-fn direction(tokens: &[Token]) -> Result<(Direction, &[Token]), Halt>
+fn direction(tokens: &[Token]) -> Parsed<'_, Direction>
     ensures read { Gives (λ x. (x.0, x.1.now)) result (token_at (like_in direction_words) tokens.now) }
     ensures fault { IfErr result (λ e. e ≡ Halt.Syntax) }
 {
@@ -58,7 +58,7 @@ impl Production for Parameter {
     ghost at = { parameter_at };
 
     #[tactic(auto, unfolding(crate::specs::StatementReaders::parameter_at))]
-    fn read(alloc: Global, tokens: &[Token]) -> Result<(Self, &[Token]), Halt> {
+    fn read(alloc: Global, tokens: &[Token]) -> Parsed<'_, Self> {
         if begins_direction(tokens) {
             let (direction, rest) = direction(tokens)?;
             let (name, rest) = identifier(alloc, rest)?;
@@ -111,7 +111,7 @@ pub(crate) fn begins_routine(tokens: &[Token]) -> bool
 }
 
 /// The word of a routine: whether it is `simpleroutine`.
-fn simple(tokens: &[Token]) -> Result<(bool, &[Token]), Halt>
+fn simple(tokens: &[Token]) -> Parsed<'_, bool>
     ensures read { Gives (λ x. (x.0, x.1.now)) result (token_at (like_in routine_words) tokens.now) }
     ensures fault { IfErr result (λ e. e ≡ Halt.Syntax) }
 {
@@ -126,7 +126,7 @@ fn simple(tokens: &[Token]) -> Result<(bool, &[Token]), Halt>
 
 /// A routine, and the tokens after it.
 #[tactic(auto, unfolding(crate::specs::StatementReaders::routine_at))]
-pub(crate) fn routine(alloc: Global, tokens: &[Token]) -> Result<(Routine, &[Token]), Halt>
+pub(crate) fn routine(alloc: Global, tokens: &[Token]) -> Parsed<'_, Routine>
     ensures { Gives (λ x. (x.0, x.1.now)) result (routine_at tokens.now) }
 {
     let (simple, rest) = simple(tokens)?;

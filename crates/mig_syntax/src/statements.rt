@@ -11,7 +11,7 @@ use crate::types::type_form;
 use crate::words::{begins_like, identifier, is_like, like};
 use idl_exprs::{Expr, mig_expression};
 use idl_lex::{Token, TokenKind};
-use idl_read::{Halt, mark};
+use idl_read::{Halt, Parsed, mark};
 use kit_base::{Name, Octets};
 use std::alloc::Global;
 
@@ -39,7 +39,7 @@ fn begins_prefix(tokens: &[Token]) -> bool
 }
 
 /// The word of a prefix.
-fn side(tokens: &[Token]) -> Result<(Side, &[Token]), Halt>
+fn side(tokens: &[Token]) -> Parsed<'_, Side>
     ensures read { Gives (λ x. (x.0, x.1.now)) result (token_at (like_in side_words) tokens.now) }
     ensures fault { IfErr result (λ e. e ≡ Halt.Syntax) }
 {
@@ -88,7 +88,7 @@ fn begins_import(tokens: &[Token]) -> bool
 }
 
 /// The word of an import.
-fn importer(tokens: &[Token]) -> Result<(Importer, &[Token]), Halt>
+fn importer(tokens: &[Token]) -> Parsed<'_, Importer>
     ensures read { Gives (λ x. (x.0, x.1.now)) result (token_at (like_in importer_words) tokens.now) }
     ensures fault { IfErr result (λ e. e ≡ Halt.Syntax) }
 {
@@ -102,7 +102,7 @@ fn importer(tokens: &[Token]) -> Result<(Importer, &[Token]), Halt>
 }
 
 /// The name of a file.
-fn file(alloc: Global, tokens: &[Token]) -> Result<(Octets, &[Token]), Halt>
+fn file(alloc: Global, tokens: &[Token]) -> Parsed<'_, Octets>
     ensures { Gives (λ x. (x.0, x.1.now)) result (token_at file_in tokens.now) }
 {
     match tokens {
@@ -138,7 +138,7 @@ fn definition(alloc: Global, tokens: &[Token]) -> Result<(Name, TypeForm, &[Toke
 
 /// A statement without its end.
 #[tactic(auto, unfolding(crate::specs::StatementReaders::body_at))]
-fn body(alloc: Global, tokens: &[Token]) -> Result<(Statement, &[Token]), Halt>
+fn body(alloc: Global, tokens: &[Token]) -> Parsed<'_, Statement>
     ensures { Gives (λ x. (x.0, x.1.now)) result (body_at tokens.now) }
 {
     if begins_like(tokens, b"type") {
@@ -163,7 +163,7 @@ fn body(alloc: Global, tokens: &[Token]) -> Result<(Statement, &[Token]), Halt>
 
 /// A statement, and the tokens after it.
 #[tactic(auto, unfolding(crate::specs::StatementReaders::statement_at))]
-pub(crate) fn statement(alloc: Global, tokens: &[Token]) -> Result<(Statement, &[Token]), Halt>
+pub(crate) fn statement(alloc: Global, tokens: &[Token]) -> Parsed<'_, Statement>
     ensures { Gives (λ x. (x.0, x.1.now)) result (statement_at tokens.now) }
 {
     let (body, rest) = body(alloc, tokens)?;

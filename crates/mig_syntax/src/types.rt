@@ -8,7 +8,7 @@ use crate::tree::TypeForm;
 use crate::words::{begins_like, identifier, like};
 use idl_exprs::{Expr, mig_expression};
 use idl_lex::Token;
-use idl_read::{Halt, begins_mark, mark};
+use idl_read::{Halt, Parsed, begins_mark, mark};
 use kit_base::Name;
 use std::alloc::Global;
 
@@ -39,7 +39,7 @@ fn sized(alloc: Global, tokens: &[Token]) -> Result<(Name, Expr, &[Token]), Halt
 
 /// A type, and the tokens after it.
 #[tactic(auto, unfolding(crate::specs::StatementReaders::type_at, crate::specs::StatementReaders::array_at))]
-pub(crate) fn type_form(alloc: Global, tokens: &[Token]) -> Result<(TypeForm, &[Token]), Halt>
+pub(crate) fn type_form(alloc: Global, tokens: &[Token]) -> Parsed<'_, TypeForm>
     ensures { Gives (λ x. (x.0, x.1.now)) result (type_at tokens.now) }
 {
     if begins_mark(tokens, b"(") {

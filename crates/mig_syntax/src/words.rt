@@ -6,7 +6,7 @@ ghost use Rattle.idl_read.specs.Reading.{Gives, begins_with, token_at};
 ghost use Rattle.mig_syntax.specs.Words.{is_one_of, like_is, like_at, named_in, identifier_at};
 
 use idl_lex::{Token, TokenKind};
-use idl_read::Halt;
+use idl_read::{Halt, Parsed};
 use kit_base::Name;
 use std::alloc::Global;
 
@@ -82,11 +82,7 @@ fn is_one(name: &[u8], words: &[&[u8]]) -> bool
 }
 
 /// A name that is none of the words, and what follows it.
-fn named<'a>(
-    alloc: Global,
-    tokens: &'a [Token],
-    words: &[&[u8]],
-) -> Result<(Name, &'a [Token]), Halt>
+fn named<'a>(alloc: Global, tokens: &'a [Token], words: &[&[u8]]) -> Parsed<'a, Name>
     ensures { Gives (λ x. (x.0, x.1.now)) result
         (token_at (named_in (map (λ w. w.now) words.now)) tokens.now) }
 {
@@ -103,7 +99,7 @@ fn named<'a>(
 }
 
 /// An identifier, and what follows it.
-pub(crate) fn identifier(alloc: Global, tokens: &[Token]) -> Result<(Name, &[Token]), Halt>
+pub(crate) fn identifier(alloc: Global, tokens: &[Token]) -> Parsed<'_, Name>
     ensures { Gives (λ x. (x.0, x.1.now)) result (identifier_at tokens.now) }
 {
     named(alloc, tokens, &WORDS)

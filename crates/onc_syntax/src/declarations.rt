@@ -7,12 +7,12 @@ ghost use Rattle.onc_syntax.specs.Readers.{exactly_at, at_most_at, decl_at};
 use crate::tree::{Decl, Value};
 use crate::types::{identifier, type_name, value};
 use idl_lex::Token;
-use idl_read::{Halt, begins, begins_mark, mark, stands_before, word};
+use idl_read::{Parsed, begins, begins_mark, mark, stands_before, word};
 use std::alloc::Global;
 
 /// A count in brackets.
 #[tactic(auto, unfolding(crate::specs::Readers::exactly_at))]
-fn exactly(alloc: Global, tokens: &[Token]) -> Result<(Value, &[Token]), Halt>
+fn exactly(alloc: Global, tokens: &[Token]) -> Parsed<'_, Value>
     ensures { Gives (λ x. (x.0, x.1.now)) result (exactly_at tokens.now) }
 {
     let rest = mark(tokens, b"[")?;
@@ -23,7 +23,7 @@ fn exactly(alloc: Global, tokens: &[Token]) -> Result<(Value, &[Token]), Halt>
 
 /// A greatest count, if there is one, between `<` and `>`.
 #[tactic(auto, unfolding(crate::specs::Readers::at_most_at))]
-fn at_most(alloc: Global, tokens: &[Token]) -> Result<(Option<Value>, &[Token]), Halt>
+fn at_most(alloc: Global, tokens: &[Token]) -> Parsed<'_, Option<Value>>
     ensures { Gives (λ x. (x.0, x.1.now)) result (at_most_at tokens.now) }
 {
     let rest = mark(tokens, b"<")?;
@@ -38,7 +38,7 @@ fn at_most(alloc: Global, tokens: &[Token]) -> Result<(Option<Value>, &[Token]),
 
 /// A declaration of a name.
 #[tactic(auto, unfolding(crate::specs::Readers::decl_at))]
-pub fn decl(alloc: Global, tokens: &[Token]) -> Result<(Decl, &[Token]), Halt>
+pub fn decl(alloc: Global, tokens: &[Token]) -> Parsed<'_, Decl>
     ensures { Gives (λ x. (x.0, x.1.now)) result (decl_at tokens.now) }
 {
     if begins(tokens, b"opaque") {

@@ -11,13 +11,13 @@ use crate::tree::{Def, Value};
 use crate::types::{identifier, value};
 use crate::unions::union;
 use idl_lex::Token;
-use idl_read::{Halt, begins, mark, word};
+use idl_read::{Parsed, begins, mark, word};
 use kit_base::Name;
 use std::alloc::Global;
 
 /// A constant, after its word.
 #[tactic(auto, unfolding(crate::specs::Readers::const_at))]
-fn constant(alloc: Global, tokens: &[Token]) -> Result<((Name, Value), &[Token]), Halt>
+fn constant(alloc: Global, tokens: &[Token]) -> Parsed<'_, (Name, Value)>
     ensures { Gives (λ x. ((x.0.0, x.0.1), x.1.now)) result (const_at tokens.now) }
 {
     let (name, rest) = identifier(alloc, tokens)?;
@@ -28,7 +28,7 @@ fn constant(alloc: Global, tokens: &[Token]) -> Result<((Name, Value), &[Token])
 
 /// A definition without its end.
 #[tactic(auto, unfolding(crate::specs::Readers::def_at))]
-fn def(alloc: Global, tokens: &[Token]) -> Result<(Def, &[Token]), Halt>
+fn def(alloc: Global, tokens: &[Token]) -> Parsed<'_, Def>
     ensures { Gives (λ x. (x.0, x.1.now)) result (def_at tokens.now) }
 {
     if begins(tokens, b"typedef") {
@@ -57,7 +57,7 @@ fn def(alloc: Global, tokens: &[Token]) -> Result<(Def, &[Token]), Halt>
 
 /// A definition and its end.
 #[tactic(auto, unfolding(crate::specs::Readers::ended_at))]
-pub fn ended(alloc: Global, tokens: &[Token]) -> Result<(Def, &[Token]), Halt>
+pub fn ended(alloc: Global, tokens: &[Token]) -> Parsed<'_, Def>
     ensures { Gives (λ x. (x.0, x.1.now)) result (ended_at tokens.now) }
 {
     let (definition, rest) = def(alloc, tokens)?;

@@ -7,7 +7,7 @@ ghost use Rattle.onc_syntax.specs.Readers.{program_at};
 use crate::tree::{ProcType, Procedure, Value, Version};
 use crate::types::{identifier, type_name, value};
 use idl_lex::Token;
-use idl_read::{Halt, Production, begins, joined, mark, some_until, word};
+use idl_read::{Halt, Parsed, Production, begins, joined, mark, some_until, word};
 use kit_base::{Listed, Name};
 use std::alloc::Global;
 
@@ -17,7 +17,7 @@ impl Production for ProcType {
     ghost at = { proc_type_at };
 
     #[tactic(auto, unfolding(crate::specs::Readers::proc_type_at))]
-    fn read(alloc: Global, tokens: &[Token]) -> Result<(Self, &[Token]), Halt> {
+    fn read(alloc: Global, tokens: &[Token]) -> Parsed<'_, Self> {
         if begins(tokens, b"void") {
             let rest = word(tokens, b"void")?;
             return Ok((ProcType::Void, rest));
@@ -37,7 +37,7 @@ impl Production for Procedure {
     ghost at = { procedure_at };
 
     #[tactic(auto, unfolding(crate::specs::Readers::procedure_at))]
-    fn read(alloc: Global, tokens: &[Token]) -> Result<(Self, &[Token]), Halt> {
+    fn read(alloc: Global, tokens: &[Token]) -> Parsed<'_, Self> {
         let (result, rest) = ProcType::read(alloc, tokens)?;
         let (name, rest) = identifier(alloc, rest)?;
         let rest = mark(rest, b"(")?;
@@ -64,7 +64,7 @@ impl Production for Version {
     ghost at = { version_at };
 
     #[tactic(auto, unfolding(crate::specs::Readers::version_at))]
-    fn read(alloc: Global, tokens: &[Token]) -> Result<(Self, &[Token]), Halt> {
+    fn read(alloc: Global, tokens: &[Token]) -> Parsed<'_, Self> {
         let rest = word(tokens, b"version")?;
         let (name, rest) = identifier(alloc, rest)?;
         let rest = mark(rest, b"{")?;

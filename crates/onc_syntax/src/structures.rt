@@ -8,7 +8,7 @@ use crate::declarations::decl;
 use crate::tree::{Item, Items, Member};
 use crate::types::{identifier, value};
 use idl_lex::Token;
-use idl_read::{Halt, Production, begins_mark, joined, mark, some_until};
+use idl_read::{Halt, Parsed, Production, begins_mark, joined, mark, some_until};
 use kit_base::{Listed, Name};
 use std::alloc::Global;
 
@@ -18,7 +18,7 @@ impl Production for Item {
     ghost at = { item_at };
 
     #[tactic(auto, unfolding(crate::specs::Readers::item_at))]
-    fn read(alloc: Global, tokens: &[Token]) -> Result<(Self, &[Token]), Halt> {
+    fn read(alloc: Global, tokens: &[Token]) -> Parsed<'_, Self> {
         let (name, rest) = identifier(alloc, tokens)?;
         if begins_mark(rest, b"=") {
             let rest = mark(rest, b"=")?;
@@ -41,7 +41,7 @@ impl Production for Member {
     ghost at = { member_at };
 
     #[tactic(auto, unfolding(crate::specs::Readers::member_at))]
-    fn read(alloc: Global, tokens: &[Token]) -> Result<(Self, &[Token]), Halt> {
+    fn read(alloc: Global, tokens: &[Token]) -> Parsed<'_, Self> {
         let (decl, rest) = decl(alloc, tokens)?;
         let rest = mark(rest, b";")?;
         Ok((Member { decl }, rest))

@@ -6,7 +6,7 @@ ghost use Rattle.onc_syntax.specs.Readers.{is_name, name_at, value_at, int_in, i
 
 use crate::tree::{IntWord, Prefix, TypeName, Value};
 use idl_lex::Token;
-use idl_read::{Halt, begins, begins_id, flag, id, is_word, number, word};
+use idl_read::{Halt, Parsed, begins, begins_id, flag, id, is_word, number, word};
 use kit_base::Name;
 use std::alloc::Global;
 
@@ -35,7 +35,7 @@ const WORDS: [&[u8]; 20] = [
 ];
 
 /// A name that is not a word.
-pub fn identifier(alloc: Global, tokens: &[Token]) -> Result<(Name, &[Token]), Halt>
+pub fn identifier(alloc: Global, tokens: &[Token]) -> Parsed<'_, Name>
     ensures { Gives (λ x. (x.0, x.1.now)) result (name_at tokens.now) }
 {
     id(alloc, tokens, &WORDS)
@@ -50,7 +50,7 @@ fn begins_name(tokens: &[Token]) -> bool
 
 /// A number or a name.
 #[tactic(auto, unfolding(crate::specs::Readers::value_at))]
-pub fn value(alloc: Global, tokens: &[Token]) -> Result<(Value, &[Token]), Halt>
+pub fn value(alloc: Global, tokens: &[Token]) -> Parsed<'_, Value>
     ensures { Gives (λ x. (x.0, x.1.now)) result (value_at tokens.now) }
 {
     if begins_name(tokens) {
@@ -117,7 +117,7 @@ fn begins_prefix(tokens: &[Token]) -> bool
 }
 
 /// A word for a kind of number.
-fn int_word(tokens: &[Token]) -> Result<(IntWord, &[Token]), Halt>
+fn int_word(tokens: &[Token]) -> Parsed<'_, IntWord>
     ensures read { Gives (λ x. (x.0, x.1.now)) result (int_at tokens.now) }
     ensures fault { IfErr result (λ e. e ≡ Halt.Syntax) }
 {
@@ -131,7 +131,7 @@ fn int_word(tokens: &[Token]) -> Result<(IntWord, &[Token]), Halt>
 }
 
 /// A prefix.
-fn prefix(tokens: &[Token]) -> Result<(Prefix, &[Token]), Halt>
+fn prefix(tokens: &[Token]) -> Parsed<'_, Prefix>
     ensures read { Gives (λ x. (x.0, x.1.now)) result (prefix_at tokens.now) }
     ensures fault { IfErr result (λ e. e ≡ Halt.Syntax) }
 {
@@ -146,7 +146,7 @@ fn prefix(tokens: &[Token]) -> Result<(Prefix, &[Token]), Halt>
 
 /// A type.
 #[tactic(auto, unfolding(crate::specs::Readers::type_at))]
-pub fn type_name(alloc: Global, tokens: &[Token]) -> Result<(TypeName, &[Token]), Halt>
+pub fn type_name(alloc: Global, tokens: &[Token]) -> Parsed<'_, TypeName>
     ensures { Gives (λ x. (x.0, x.1.now)) result (type_at tokens.now) }
 {
     if begins(tokens, b"unsigned") {

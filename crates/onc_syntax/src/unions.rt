@@ -8,7 +8,7 @@ use crate::declarations::decl;
 use crate::tree::{Arm, Case, Label, Union};
 use crate::types::{identifier, type_name, value};
 use idl_lex::Token;
-use idl_read::{Halt, Production, begins, mark, some_while, word};
+use idl_read::{Parsed, Production, begins, mark, some_while, word};
 use std::alloc::Global;
 
 impl Production for Label {
@@ -17,7 +17,7 @@ impl Production for Label {
     ghost at = { label_at };
 
     #[tactic(auto, unfolding(crate::specs::Readers::label_at))]
-    fn read(alloc: Global, tokens: &[Token]) -> Result<(Self, &[Token]), Halt> {
+    fn read(alloc: Global, tokens: &[Token]) -> Parsed<'_, Self> {
         let rest = word(tokens, b"case")?;
         let (value, rest) = value(alloc, rest)?;
         let rest = mark(rest, b":")?;
@@ -27,7 +27,7 @@ impl Production for Label {
 
 /// What is in a case, without its end.
 #[tactic(auto, unfolding(crate::specs::Readers::arm_at))]
-fn arm(alloc: Global, tokens: &[Token]) -> Result<(Arm, &[Token]), Halt>
+fn arm(alloc: Global, tokens: &[Token]) -> Parsed<'_, Arm>
     ensures { Gives (λ x. (x.0, x.1.now)) result (arm_at tokens.now) }
 {
     if begins(tokens, b"void") {
@@ -44,7 +44,7 @@ impl Production for Case {
     ghost at = { case_at };
 
     #[tactic(auto, unfolding(crate::specs::Readers::case_at))]
-    fn read(alloc: Global, tokens: &[Token]) -> Result<(Self, &[Token]), Halt> {
+    fn read(alloc: Global, tokens: &[Token]) -> Parsed<'_, Self> {
         let (labels, rest) = some_while::<Label>(alloc, tokens, b"case")?;
         let (arm, rest) = arm(alloc, rest)?;
         let rest = mark(rest, b";")?;
@@ -54,7 +54,7 @@ impl Production for Case {
 
 /// The default of a union.
 #[tactic(auto, unfolding(crate::specs::Readers::default_at))]
-fn default(alloc: Global, tokens: &[Token]) -> Result<(Arm, &[Token]), Halt>
+fn default(alloc: Global, tokens: &[Token]) -> Parsed<'_, Arm>
     ensures { Gives (λ x. (x.0, x.1.now)) result (default_at tokens.now) }
 {
     let rest = word(tokens, b"default")?;
@@ -66,7 +66,7 @@ fn default(alloc: Global, tokens: &[Token]) -> Result<(Arm, &[Token]), Halt>
 
 /// A union, after its word.
 #[tactic(auto, unfolding(crate::specs::Readers::union_at))]
-pub fn union(alloc: Global, tokens: &[Token]) -> Result<(Union, &[Token]), Halt>
+pub fn union(alloc: Global, tokens: &[Token]) -> Parsed<'_, Union>
     ensures { Gives (λ x. (x.0, x.1.now)) result (union_at tokens.now) }
 {
     let (name, rest) = identifier(alloc, tokens)?;
