@@ -1,6 +1,6 @@
 -- The proofs, each after those that it uses; * marks those that the proofs of functions use.
 
--- Types that stay sound when others are put after them: numbers, texts, names, rows of these, by induction on the type
+-- Exceptions stay sound when types are put after others, by induction on the exceptions
 pub mod Lasting
 -- What the names of a file stand for, over the types so far
 pub mod Standing

@@ -14,6 +14,9 @@ pub(crate) struct Cursor<'a> {
     ghost within: { place + length rest.now ≤ longest_message },
 }
 
+/// What is read, and where what follows begins; or why nothing is read.
+pub(crate) type Taken<'a, T, E = Fault> = Result<(T, Cursor<'a>), E>;
+
 /// Why nothing was read.
 #[derive(Drop)]
 pub(crate) enum ReadError {

@@ -12,7 +12,7 @@ ghost use Rattle.wire_def.specs.declared.fault.FaultKind.{FaultKind};
 ghost use Rattle.plain_wire.specs.Readers.{Gives, all_values};
 ghost use Rattle.plain_wire.specs.Answered.{IsValue, IsStop};
 
-use crate::cursor::{Cursor, ReadError};
+use crate::cursor::{Cursor, ReadError, Taken};
 use crate::read_array::{row, text};
 use crate::read_head::count;
 use crate::read_scalar::{lone, one_label};
@@ -84,7 +84,7 @@ fn value<'a>(
     mint: &Mint,
     id: u32,
     at: Cursor<'a>,
-) -> Result<(Value, Cursor<'a>), ReadError>
+) -> Taken<'a, Value, ReadError>
     requires id { id < length mint.now }
     ensures { Gives seen result (read enc (type_at mint.now id) at.entry.place at.entry.rest.now) }
 {
@@ -129,7 +129,7 @@ fn fields<'a>(
     id: u32,
     ids: &NodeIds,
     at: Cursor<'a>,
-) -> Result<(Values, Cursor<'a>), ReadError>
+) -> Taken<'a, Values, ReadError>
     requires id { id < length mint.now }
     requires below { AreBelow id ids.now }
     ensures { Gives all_seen result
@@ -156,7 +156,7 @@ fn items<'a>(
     item: u32,
     bound: Count,
     at: Cursor<'a>,
-) -> Result<(Value, Cursor<'a>), ReadError>
+) -> Taken<'a, Value, ReadError>
     requires id { id < length mint.now }
     requires below { item < id }
     ensures { Gives seen result
@@ -178,7 +178,7 @@ fn each<'a>(
     item: u32,
     n: usize,
     at: Cursor<'a>,
-) -> Result<(Values, Cursor<'a>), ReadError>
+) -> Taken<'a, Values, ReadError>
     requires id { id < length mint.now }
     requires below { item < id }
     ensures { Gives all_values result
@@ -206,7 +206,7 @@ fn choice<'a>(
     arms: &Arms,
     other: Option<u32>,
     at: Cursor<'a>,
-) -> Result<(Value, Cursor<'a>), ReadError>
+) -> Taken<'a, Value, ReadError>
     requires id { id < length mint.now }
     requires below { ArmsBelow id arms.now }
     requires other { IsBelow id other }
@@ -229,7 +229,7 @@ fn maybe<'a>(
     id: u32,
     item: u32,
     at: Cursor<'a>,
-) -> Result<(Value, Cursor<'a>), ReadError>
+) -> Taken<'a, Value, ReadError>
     requires id { id < length mint.now }
     requires below { item < id }
     ensures { Gives seen result

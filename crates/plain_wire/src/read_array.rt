@@ -9,7 +9,7 @@ ghost use Rattle.wire_def.specs.Grammar.{times};
 ghost use Rattle.wire_def.specs.Arrays.{read_zeros, read_element, read_array, read_tail};
 ghost use Rattle.plain_wire.specs.Readers.{any_octet, any_letter, letters_read, elements_read, nothing, numbers_in, Gives, Reads};
 
-use crate::cursor::{Cursor, ReadError, stop};
+use crate::cursor::{Cursor, ReadError, Taken, stop};
 use crate::read_described::any;
 use crate::read_head::{row_head, text_head};
 use crate::read_row::numbers;
@@ -18,11 +18,11 @@ use kit_base::NoMemory;
 use mint::kind::{Count, Kind};
 use mint::row::Row;
 use std::alloc::Global;
-use wire_def::{Encoding, Fault, FaultKind};
+use wire_def::{Encoding, FaultKind};
 
 /// The next n octets.
 #[tactic(auto, using(crate::proofs::Blocks::blocks))]
-fn octets(n: usize, at: Cursor<'_>) -> Result<(&[u8], Cursor<'_>), Fault>
+fn octets(n: usize, at: Cursor<'_>) -> Taken<'_, &[u8]>
     ensures { Reads (λ o. map pos o.now) result (times any_octet n at.entry.place at.entry.rest.now) }
 {
     if at.rest.len() < n {
@@ -54,7 +54,7 @@ fn zero_in(octets: &[u8]) -> Option<usize>
 /// The next n octets of a text. A fault is an octet 0 among those that are there, or else that
 /// fewer are there.
 #[tactic(auto, using(crate::proofs::Blocks::blocks))]
-fn letters(n: usize, at: Cursor<'_>) -> Result<(&[u8], Cursor<'_>), Fault>
+fn letters(n: usize, at: Cursor<'_>) -> Taken<'_, &[u8]>
     ensures { Reads (λ o. map pos o.now) result (times any_letter n at.entry.place at.entry.rest.now) }
 {
     if let Some(i) = zero_in(first(n, at.rest)) {
@@ -76,7 +76,7 @@ fn row_of_octets(alloc: Global, kind: Kind, octets: &[u8]) -> Result<Row, NoMemo
 
 /// The next octet.
 #[tactic(auto, unfolding(wire_def::specs::Arrays::read_octet))]
-fn octet(at: Cursor<'_>) -> Result<(u8, Cursor<'_>), Fault>
+fn octet(at: Cursor<'_>) -> Taken<'_, u8>
     ensures { Reads (λ o. pos o) result (any_octet at.entry.place at.entry.rest.now) }
 {
     match at.rest {
@@ -90,7 +90,7 @@ fn octet(at: Cursor<'_>) -> Result<(u8, Cursor<'_>), Fault>
 
 /// The next n octets, which are 0; one that is not has the given fault.
 #[tactic(auto, using(crate::proofs::Reading::pads))]
-fn zeros(n: usize, fault: FaultKind, at: Cursor<'_>) -> Result<((), Cursor<'_>), Fault>
+fn zeros(n: usize, fault: FaultKind, at: Cursor<'_>) -> Taken<'_, ()>
     ensures { Reads nothing result (read_zeros n fault at.entry.place at.entry.rest.now) }
 {
     if n == 0 {
@@ -112,7 +112,7 @@ fn elements(
     bound: Count,
     n: usize,
     at: Cursor<'_>,
-) -> Result<(Row, Cursor<'_>), ReadError>
+) -> Taken<'_, Row, ReadError>
     ensures numbers { Gives numbers_in result
         (times (read_element enc (row_of kind bound)) n at.entry.place at.entry.rest.now) }
     ensures kind { IfOk result (λ x. x.0.kind ≡ kind) }
@@ -134,7 +134,7 @@ fn after_elements(
     bound: Count,
     n: usize,
     at: Cursor<'_>,
-) -> Result<((), Cursor<'_>), Fault>
+) -> Taken<'_, ()>
     ensures { Reads nothing result (read_tail enc (row_of kind bound) n at.entry.place at.entry.rest.now) }
 {
     match enc {
@@ -145,12 +145,7 @@ fn after_elements(
 
 /// What follows a text's octets.
 #[tactic(auto, using(crate::proofs::Words::tails))]
-fn after_letters(
-    enc: Encoding,
-    bound: Count,
-    n: usize,
-    at: Cursor<'_>,
-) -> Result<((), Cursor<'_>), Fault>
+fn after_letters(enc: Encoding, bound: Count, n: usize, at: Cursor<'_>) -> Taken<'_, ()>
     ensures { Reads nothing result (read_tail enc (text bound) n at.entry.place at.entry.rest.now) }
 {
     match enc {
@@ -167,7 +162,7 @@ fn ended_elements(
     bound: Count,
     n: usize,
     at: Cursor<'_>,
-) -> Result<(Row, Cursor<'_>), ReadError>
+) -> Taken<'_, Row, ReadError>
     ensures numbers { Gives numbers_in result
         (elements_read enc kind bound n at.entry.place at.entry.rest.now) }
     ensures kind { IfOk result (λ x. x.0.kind ≡ kind) }
@@ -185,7 +180,7 @@ pub(crate) fn row(
     kind: Kind,
     bound: Count,
     at: Cursor<'_>,
-) -> Result<(Row, Cursor<'_>), ReadError>
+) -> Taken<'_, Row, ReadError>
     ensures numbers { Gives numbers_in result
         (read_array enc (row_of kind bound) at.entry.place at.entry.rest.now) }
     ensures kind { IfOk result (λ x. x.0.kind ≡ kind) }
@@ -201,7 +196,7 @@ fn ended_letters(
     bound: Count,
     n: usize,
     at: Cursor<'_>,
-) -> Result<(Row, Cursor<'_>), ReadError>
+) -> Taken<'_, Row, ReadError>
     ensures numbers { Gives numbers_in result (letters_read enc bound n at.entry.place at.entry.rest.now) }
     ensures kind { IfOk result (λ x. x.0.kind ≡ kind.Char) }
 {
@@ -217,7 +212,7 @@ pub(crate) fn text(
     enc: Encoding,
     bound: Count,
     at: Cursor<'_>,
-) -> Result<(Row, Cursor<'_>), ReadError>
+) -> Taken<'_, Row, ReadError>
     ensures numbers { Gives numbers_in result (read_array enc (text bound) at.entry.place at.entry.rest.now) }
     ensures kind { IfOk result (λ x. x.0.kind ≡ kind.Char) }
 {

@@ -8,18 +8,18 @@ ghost use Rattle.wire_def.specs.Lone.{filling, read_any, read_desc, read_lone, s
 ghost use Rattle.wire_def.specs.Described.{elements_in, has_form, is_marked, is_right, is_whole, is_fixed, read_described, read_first, read_rest, takes, widened};
 ghost use Rattle.plain_wire.specs.Readers.{Reads, itself, nothing, read_many, same};
 
-use crate::cursor::{Cursor, stop};
+use crate::cursor::{Cursor, Taken, stop};
 use crate::read_head::allows;
 use crate::read_scalar::{label_at, number_at, word_32, word_64};
 use crate::units::filling_of;
 use mint::kind::{Count, Kind};
 use mint::node::Labels;
 use wire_def::descriptors::{MOST_UNITS, unit_word, units_in, word_of};
-use wire_def::{Encoding, Fault, FaultKind};
+use wire_def::{Encoding, FaultKind};
 
 /// So many octets, whatever they are.
 #[tactic(auto, unfolding(wire_def::specs::Lone::read_any))]
-pub(crate) fn any(n: usize, at: Cursor<'_>) -> Result<((), Cursor<'_>), Fault>
+pub(crate) fn any(n: usize, at: Cursor<'_>) -> Taken<'_, ()>
     ensures { Reads nothing result (read_any n at.entry.place at.entry.rest.now) }
 {
     if at.rest.len() < n {
@@ -32,7 +32,7 @@ pub(crate) fn any(n: usize, at: Cursor<'_>) -> Result<((), Cursor<'_>), Fault>
 
 /// The descriptor of a number by itself.
 #[tactic(auto, unfolding(wire_def::specs::Lone::read_desc))]
-pub(crate) fn descriptor(kind: Kind, at: Cursor<'_>) -> Result<((), Cursor<'_>), Fault>
+pub(crate) fn descriptor(kind: Kind, at: Cursor<'_>) -> Taken<'_, ()>
     ensures { Reads nothing result (read_desc (scalar_word (number kind)) at.entry.place at.entry.rest.now) }
 {
     let (m, next) = word_32(Encoding::Mach, at)?;
@@ -44,14 +44,14 @@ pub(crate) fn descriptor(kind: Kind, at: Cursor<'_>) -> Result<((), Cursor<'_>),
 }
 
 /// What fills up the item of a number.
-pub(crate) fn fills_up(kind: Kind, at: Cursor<'_>) -> Result<((), Cursor<'_>), Fault>
+pub(crate) fn fills_up(kind: Kind, at: Cursor<'_>) -> Taken<'_, ()>
     ensures { Reads nothing result (read_any (filling (number kind)) at.entry.place at.entry.rest.now) }
 {
     any(filling_of(kind), at)
 }
 
 /// The item of a number.
-pub(crate) fn item(kind: Kind, at: Cursor<'_>) -> Result<(i128, Cursor<'_>), Fault>
+pub(crate) fn item(kind: Kind, at: Cursor<'_>) -> Taken<'_, i128>
     ensures ranged { IfOk result (λ x. IsInRange kind x.0) }
     ensures read { Reads itself result (read_lone Mach (number kind) at.entry.place at.entry.rest.now) }
 {
@@ -62,7 +62,7 @@ pub(crate) fn item(kind: Kind, at: Cursor<'_>) -> Result<(i128, Cursor<'_>), Fau
 }
 
 /// The item of one of an enum's labels.
-pub(crate) fn label_item<'a>(labels: &Labels, at: Cursor<'a>) -> Result<(i128, Cursor<'a>), Fault>
+pub(crate) fn label_item<'a>(labels: &Labels, at: Cursor<'a>) -> Taken<'a, i128>
     ensures { Reads itself result (read_lone Mach (label labels.now) at.entry.place at.entry.rest.now) }
 {
     let ((), start) = descriptor(Kind::I32, at)?;
@@ -108,7 +108,7 @@ fn formed(bound: Count, kind: Kind, m: u32) -> bool
 
 /// The first word of a descriptor.
 #[tactic(auto, unfolding(wire_def::specs::Described::read_first))]
-fn first(bound: Count, kind: Kind, at: Cursor<'_>) -> Result<(u32, Cursor<'_>), Fault>
+fn first(bound: Count, kind: Kind, at: Cursor<'_>) -> Taken<'_, u32>
     ensures { Reads same result (read_first bound (number kind) at.entry.place at.entry.rest.now) }
 {
     let (m, next) = word_32(Encoding::Mach, at)?;
@@ -130,7 +130,7 @@ fn widely(m: u32) -> u64
 /// What a descriptor says: the 8 octets after the first word of a long one. Where they are cut off,
 /// the place of the fault is that of the first word.
 #[tactic(auto, unfolding(wire_def::specs::Described::read_rest, wire_def::specs::Described::reported_before))]
-fn said(m: u32, at: Cursor<'_>) -> Result<(u64, Cursor<'_>), Fault>
+fn said(m: u32, at: Cursor<'_>) -> Taken<'_, u64>
     ensures { Reads same result (read_rest m at.entry.place at.entry.rest.now) }
 {
     if !marked(m) {
@@ -182,7 +182,7 @@ fn numbers_in(kind: Kind, units: u64) -> usize
 }
 
 /// How many numbers a descriptor says that there are, whatever the bound.
-fn many(bound: Count, kind: Kind, at: Cursor<'_>) -> Result<(usize, Cursor<'_>), Fault>
+fn many(bound: Count, kind: Kind, at: Cursor<'_>) -> Taken<'_, usize>
     ensures { Reads same result (read_many bound (number kind) at.entry.place at.entry.rest.now) }
 {
     let (m, next) = first(bound, kind, at)?;
@@ -196,11 +196,7 @@ fn many(bound: Count, kind: Kind, at: Cursor<'_>) -> Result<(usize, Cursor<'_>),
 
 /// The descriptor of a row or text, which gives its length.
 #[tactic(auto, unfolding(wire_def::specs::Described::read_described))]
-pub(crate) fn described(
-    bound: Count,
-    kind: Kind,
-    at: Cursor<'_>,
-) -> Result<(usize, Cursor<'_>), Fault>
+pub(crate) fn described(bound: Count, kind: Kind, at: Cursor<'_>) -> Taken<'_, usize>
     ensures { Reads same result (read_described bound (number kind) at.entry.place at.entry.rest.now) }
 {
     let (n, next) = many(bound, kind, at)?;

@@ -8,16 +8,16 @@ ghost use Rattle.wire_def.specs.Arrays.{counted, read_count, read_ended, read_he
 ghost use Rattle.wire_def.specs.Described.{allowed};
 ghost use Rattle.plain_wire.specs.Readers.{Reads, read_counted, read_length, same};
 
-use crate::cursor::{Cursor, stop};
+use crate::cursor::{Cursor, Taken, stop};
 use crate::read_described::described;
 use crate::read_scalar::{lone, number_at};
 use crate::widths::gap_of;
 use mint::kind::{Count, Kind};
-use wire_def::{Encoding, Fault, FaultKind};
+use wire_def::{Encoding, FaultKind};
 
 /// A count by itself.
 #[tactic(auto, using(crate::proofs::Words::counts))]
-fn one_count(enc: Encoding, at: Cursor<'_>) -> Result<(usize, Cursor<'_>), Fault>
+fn one_count(enc: Encoding, at: Cursor<'_>) -> Taken<'_, usize>
     ensures { Reads same result (read_counted enc at.entry.place at.entry.rest.now) }
 {
     let (n, next) = lone(enc, Kind::U32, at)?;
@@ -49,11 +49,7 @@ pub(crate) fn allows(bound: Count, n: usize) -> bool
 
 /// The count of a list.
 #[tactic(auto, using(crate::proofs::Words::counts), unfolding(wire_def::specs::Arrays::read_count))]
-pub(crate) fn count(
-    enc: Encoding,
-    bound: Count,
-    at: Cursor<'_>,
-) -> Result<(usize, Cursor<'_>), Fault>
+pub(crate) fn count(enc: Encoding, bound: Count, at: Cursor<'_>) -> Taken<'_, usize>
     ensures { Reads same result (read_count enc bound at.entry.place at.entry.rest.now) }
 {
     match bound {
@@ -72,7 +68,7 @@ pub(crate) fn count(
 
 /// A length without a descriptor.
 #[tactic(auto, using(crate::proofs::Words::counts))]
-fn one_length(enc: Encoding, at: Cursor<'_>) -> Result<(usize, Cursor<'_>), Fault>
+fn one_length(enc: Encoding, at: Cursor<'_>) -> Taken<'_, usize>
     ensures { Reads same result (read_length enc at.entry.place at.entry.rest.now) }
 {
     let (n, next) = number_at(enc, Kind::U32, at)?;
@@ -81,7 +77,7 @@ fn one_length(enc: Encoding, at: Cursor<'_>) -> Result<(usize, Cursor<'_>), Faul
 
 /// The length of a text that has an octet 0 after it.
 #[tactic(auto, using(crate::proofs::Words::counts))]
-fn ended(enc: Encoding, bound: Count, at: Cursor<'_>) -> Result<(usize, Cursor<'_>), Fault>
+fn ended(enc: Encoding, bound: Count, at: Cursor<'_>) -> Taken<'_, usize>
     ensures { Reads same result (read_ended enc bound at.entry.place at.entry.rest.now) }
 {
     let (m, next) = one_length(enc, at)?;
@@ -99,11 +95,7 @@ fn ended(enc: Encoding, bound: Count, at: Cursor<'_>) -> Result<(usize, Cursor<'
 
 /// What gives the length of a text.
 #[tactic(auto, using(crate::proofs::Words::heads))]
-pub(crate) fn text_head(
-    enc: Encoding,
-    bound: Count,
-    at: Cursor<'_>,
-) -> Result<(usize, Cursor<'_>), Fault>
+pub(crate) fn text_head(enc: Encoding, bound: Count, at: Cursor<'_>) -> Taken<'_, usize>
     ensures { Reads same result (read_head enc (text bound) at.entry.place at.entry.rest.now) }
 {
     match enc {
@@ -115,12 +107,7 @@ pub(crate) fn text_head(
 
 /// What gives the length of a row.
 #[tactic(auto, using(crate::proofs::Words::heads))]
-pub(crate) fn row_head(
-    enc: Encoding,
-    kind: Kind,
-    bound: Count,
-    at: Cursor<'_>,
-) -> Result<(usize, Cursor<'_>), Fault>
+pub(crate) fn row_head(enc: Encoding, kind: Kind, bound: Count, at: Cursor<'_>) -> Taken<'_, usize>
     ensures { Reads same result (read_head enc (row_of kind bound) at.entry.place at.entry.rest.now) }
 {
     match enc {

@@ -10,7 +10,7 @@ ghost use Rattle.plain_wire.specs.Rows.{IsWay, arranged};
 ghost use Rattle.kit_swap.specs.Swapped.{IsSwapWidth, swapped};
 ghost use Rattle.plain_wire.specs.Readers.{numbers_in, read_here, Gives, Reads};
 
-use crate::cursor::{Cursor, ReadError, stop};
+use crate::cursor::{Cursor, ReadError, Taken, stop};
 use crate::read_scalar::{number_here, skip};
 use crate::widths::{PIECE, Way, gap_before, way_of};
 use kit_base::NoMemory;
@@ -18,7 +18,7 @@ use kit_swap::swap_numbers;
 use mint::kind::Kind;
 use mint::row::Row;
 use std::alloc::Global;
-use wire_def::{Encoding, Fault, FaultKind};
+use wire_def::{Encoding, FaultKind};
 
 /// How many whole numbers of a width the octets hold.
 fn many(octets: &[u8], width: usize) -> usize
@@ -31,13 +31,7 @@ fn many(octets: &[u8], width: usize) -> usize
 
 /// The octets of the next n numbers, whatever they are.
 #[tactic(auto, using(crate::proofs::RowWords::images))]
-fn image(
-    _enc: Encoding,
-    kind: Kind,
-    _way: Way,
-    n: usize,
-    at: Cursor<'_>,
-) -> Result<(&[u8], Cursor<'_>), Fault>
+fn image(_enc: Encoding, kind: Kind, _way: Way, n: usize, at: Cursor<'_>) -> Taken<'_, &[u8]>
     requires way { IsWay _enc kind _way }
     requires block { _way ≢ Way.Single }
     requires kind { kind ≢ Kind.Bool }
@@ -84,7 +78,7 @@ fn each_number(
     kind: Kind,
     n: usize,
     at: Cursor<'_>,
-) -> Result<(Row, Cursor<'_>), ReadError>
+) -> Taken<'_, Row, ReadError>
     ensures numbers { Gives numbers_in result
         (times (read_here enc (number kind)) n at.entry.place at.entry.rest.now) }
     ensures kind { IfOk result (λ x. x.0.kind ≡ kind) }
@@ -106,7 +100,7 @@ fn numbers_here(
     kind: Kind,
     n: usize,
     at: Cursor<'_>,
-) -> Result<(Row, Cursor<'_>), ReadError>
+) -> Taken<'_, Row, ReadError>
     ensures numbers { Gives numbers_in result
         (times (read_here enc (number kind)) n at.entry.place at.entry.rest.now) }
     ensures kind { IfOk result (λ x. x.0.kind ≡ kind) }
@@ -135,7 +129,7 @@ pub(crate) fn numbers(
     kind: Kind,
     n: usize,
     at: Cursor<'_>,
-) -> Result<(Row, Cursor<'_>), ReadError>
+) -> Taken<'_, Row, ReadError>
     ensures numbers { Gives numbers_in result
         (times (read_scalar enc (number kind)) n at.entry.place at.entry.rest.now) }
     ensures kind { IfOk result (λ x. x.0.kind ≡ kind) }

@@ -9,17 +9,17 @@ ghost use Rattle.wire_def.specs.Lone.{read_lone};
 ghost use Rattle.plain_wire.specs.Widths.{width_in};
 ghost use Rattle.plain_wire.specs.Readers.{Reads, same, itself, nothing, read_gap, read_bits, read_here};
 
-use crate::cursor::{Cursor, stop};
+use crate::cursor::{Cursor, Taken, stop};
 use crate::read_described::{item, label_item};
 use crate::widths::{Size, gap_of, has_sign, size_of};
 use mint::fits::has_label;
 use mint::kind::Kind;
 use mint::node::Labels;
-use wire_def::{Encoding, Fault, FaultKind};
+use wire_def::{Encoding, FaultKind};
 
 /// The octets up to where a number begins.
 #[tactic(auto, unfolding(crate::specs::Readers::read_gap))]
-pub(crate) fn skip(n: usize, at: Cursor<'_>) -> Result<((), Cursor<'_>), Fault>
+pub(crate) fn skip(n: usize, at: Cursor<'_>) -> Taken<'_, ()>
     requires { n < 8 }
     ensures { Reads nothing result (read_gap n at.entry.place at.entry.rest.now) }
 {
@@ -33,7 +33,7 @@ pub(crate) fn skip(n: usize, at: Cursor<'_>) -> Result<((), Cursor<'_>), Fault>
 
 /// One octet.
 #[tactic(auto, using(crate::proofs::Words::words))]
-fn word_8(enc: Encoding, at: Cursor<'_>) -> Result<(u8, Cursor<'_>), Fault>
+fn word_8(enc: Encoding, at: Cursor<'_>) -> Taken<'_, u8>
     ensures { Reads same result (read_word enc 1 w8 at.entry.place at.entry.rest.now) }
 {
     if at.rest.len() < 1 {
@@ -51,7 +51,7 @@ fn word_8(enc: Encoding, at: Cursor<'_>) -> Result<(u8, Cursor<'_>), Fault>
 
 /// Two octets.
 #[tactic(auto, using(crate::proofs::Words::words))]
-fn word_16(enc: Encoding, at: Cursor<'_>) -> Result<(u16, Cursor<'_>), Fault>
+fn word_16(enc: Encoding, at: Cursor<'_>) -> Taken<'_, u16>
     ensures { Reads same result (read_word enc 1 w16 at.entry.place at.entry.rest.now) }
 {
     if at.rest.len() < 2 {
@@ -69,7 +69,7 @@ fn word_16(enc: Encoding, at: Cursor<'_>) -> Result<(u16, Cursor<'_>), Fault>
 
 /// Four octets.
 #[tactic(auto, using(crate::proofs::Words::words))]
-pub(crate) fn word_32(enc: Encoding, at: Cursor<'_>) -> Result<(u32, Cursor<'_>), Fault>
+pub(crate) fn word_32(enc: Encoding, at: Cursor<'_>) -> Taken<'_, u32>
     ensures { Reads same result (read_word enc 1 w32 at.entry.place at.entry.rest.now) }
 {
     if at.rest.len() < 4 {
@@ -87,7 +87,7 @@ pub(crate) fn word_32(enc: Encoding, at: Cursor<'_>) -> Result<(u32, Cursor<'_>)
 
 /// Eight octets.
 #[tactic(auto, using(crate::proofs::Words::words))]
-pub(crate) fn word_64(enc: Encoding, at: Cursor<'_>) -> Result<(u64, Cursor<'_>), Fault>
+pub(crate) fn word_64(enc: Encoding, at: Cursor<'_>) -> Taken<'_, u64>
     ensures { Reads same result (read_word enc 1 w64 at.entry.place at.entry.rest.now) }
 {
     if at.rest.len() < 8 {
@@ -166,12 +166,7 @@ fn number_64(signed: bool, m: u64) -> i128
 }
 
 /// A number of a width.
-fn bits(
-    enc: Encoding,
-    signed: bool,
-    size: Size,
-    at: Cursor<'_>,
-) -> Result<(i128, Cursor<'_>), Fault>
+fn bits(enc: Encoding, signed: bool, size: Size, at: Cursor<'_>) -> Taken<'_, i128>
     ensures { Reads itself result (read_bits enc signed (width_in size) at.entry.place at.entry.rest.now) }
 {
     match size {
@@ -196,11 +191,7 @@ fn bits(
 
 /// A number of a kind, where it begins.
 #[tactic(auto, using(crate::proofs::Words::kinds))]
-pub(crate) fn number_here(
-    enc: Encoding,
-    kind: Kind,
-    at: Cursor<'_>,
-) -> Result<(i128, Cursor<'_>), Fault>
+pub(crate) fn number_here(enc: Encoding, kind: Kind, at: Cursor<'_>) -> Taken<'_, i128>
     ensures ranged { IfOk result (λ x. IsInRange kind x.0) }
     ensures read { Reads itself result (read_here enc (number kind) at.entry.place at.entry.rest.now) }
 {
@@ -214,11 +205,7 @@ pub(crate) fn number_here(
 
 /// A number of a kind, after its gap.
 #[tactic(auto, using(crate::proofs::Words::scalars))]
-pub(crate) fn number_at(
-    enc: Encoding,
-    kind: Kind,
-    at: Cursor<'_>,
-) -> Result<(i128, Cursor<'_>), Fault>
+pub(crate) fn number_at(enc: Encoding, kind: Kind, at: Cursor<'_>) -> Taken<'_, i128>
     ensures ranged { IfOk result (λ x. IsInRange kind x.0) }
     ensures read { Reads itself result (read_scalar enc (number kind) at.entry.place at.entry.rest.now) }
 {
@@ -228,7 +215,7 @@ pub(crate) fn number_at(
 
 /// A number that travels by itself.
 #[tactic(auto, using(crate::proofs::Words::lones))]
-pub(crate) fn lone(enc: Encoding, kind: Kind, at: Cursor<'_>) -> Result<(i128, Cursor<'_>), Fault>
+pub(crate) fn lone(enc: Encoding, kind: Kind, at: Cursor<'_>) -> Taken<'_, i128>
     ensures ranged { IfOk result (λ x. IsInRange kind x.0) }
     ensures read { Reads itself result (read_lone enc (number kind) at.entry.place at.entry.rest.now) }
 {
@@ -240,11 +227,7 @@ pub(crate) fn lone(enc: Encoding, kind: Kind, at: Cursor<'_>) -> Result<(i128, C
 
 /// One of an enum's labels, where it begins.
 #[tactic(auto, using(crate::proofs::Words::labels))]
-fn label_here<'a>(
-    enc: Encoding,
-    labels: &Labels,
-    at: Cursor<'a>,
-) -> Result<(i128, Cursor<'a>), Fault>
+fn label_here<'a>(enc: Encoding, labels: &Labels, at: Cursor<'a>) -> Taken<'a, i128>
     ensures { Reads itself result (read_here enc (label labels.now) at.entry.place at.entry.rest.now) }
 {
     let (n, next) = bits(enc, true, Size::Four, at)?;
@@ -257,11 +240,7 @@ fn label_here<'a>(
 
 /// One of an enum's labels, after its gap.
 #[tactic(auto, using(crate::proofs::Words::lones))]
-pub(crate) fn label_at<'a>(
-    enc: Encoding,
-    labels: &Labels,
-    at: Cursor<'a>,
-) -> Result<(i128, Cursor<'a>), Fault>
+pub(crate) fn label_at<'a>(enc: Encoding, labels: &Labels, at: Cursor<'a>) -> Taken<'a, i128>
     ensures { Reads itself result (read_scalar enc (label labels.now) at.entry.place at.entry.rest.now) }
 {
     let ((), there) = skip(gap_of(enc, Kind::I32, at.place), at)?;
@@ -270,11 +249,7 @@ pub(crate) fn label_at<'a>(
 
 /// One of an enum's labels, by itself.
 #[tactic(auto, using(crate::proofs::Words::lones))]
-pub(crate) fn one_label<'a>(
-    enc: Encoding,
-    labels: &Labels,
-    at: Cursor<'a>,
-) -> Result<(i128, Cursor<'a>), Fault>
+pub(crate) fn one_label<'a>(enc: Encoding, labels: &Labels, at: Cursor<'a>) -> Taken<'a, i128>
     ensures { Reads itself result (read_lone enc (label labels.now) at.entry.place at.entry.rest.now) }
 {
     match enc {

@@ -10,13 +10,13 @@ ghost use Rattle.wire_def.specs.Scalars.{read_scalar, scalar_place};
 ghost use Rattle.wire_def.specs.Lone.{filling, read_pass, scalar_word};
 ghost use Rattle.plain_wire.specs.Readers.{Reads, itself, lists, number_of_tag, read_armed};
 
-use crate::cursor::{Cursor, stop};
+use crate::cursor::{Cursor, Taken, stop};
 use crate::read_described::{descriptor, fills_up};
 use crate::read_scalar::{label_at, number_at};
 use crate::widths::gap_of;
 use mint::kind::Kind;
 use mint::node::{Arms, Tag, arm_of};
-use wire_def::{Encoding, Fault, FaultKind};
+use wire_def::{Encoding, FaultKind};
 
 /// The kind that a discriminant travels as.
 fn kind_of(tag: &Tag) -> Kind
@@ -30,7 +30,7 @@ fn kind_of(tag: &Tag) -> Kind
 }
 
 /// The number of a discriminant, after its gap.
-fn scalar<'a>(enc: Encoding, tag: &Tag, at: Cursor<'a>) -> Result<(i128, Cursor<'a>), Fault>
+fn scalar<'a>(enc: Encoding, tag: &Tag, at: Cursor<'a>) -> Taken<'a, i128>
     ensures { Reads itself result (read_scalar enc (scalar_of tag.now) at.entry.place at.entry.rest.now) }
 {
     match tag {
@@ -59,7 +59,7 @@ fn tag_here<'a>(
     arms: &Arms,
     other: Option<u32>,
     at: Cursor<'a>,
-) -> Result<((i128, u32), Cursor<'a>), Fault>
+) -> Taken<'a, (i128, u32)>
     ensures arm { IfOk result (λ x. arm_found arms.now other x.0.0 ≡ Some x.0.1) }
     ensures read { Reads number_of_tag result
         (read_armed enc (scalar_of tag.now) arms.now other at.entry.place at.entry.rest.now) }
@@ -77,7 +77,7 @@ fn tag_item<'a>(
     arms: &Arms,
     other: Option<u32>,
     at: Cursor<'a>,
-) -> Result<((i128, u32), Cursor<'a>), Fault>
+) -> Taken<'a, (i128, u32)>
     ensures arm { IfOk result (λ x. arm_found arms.now other x.0.0 ≡ Some x.0.1) }
     ensures read { Reads number_of_tag result (read_pass Mach (scalar_of tag.now) (lists arms.now other)
         BadValue at.entry.place at.entry.rest.now) }
@@ -97,7 +97,7 @@ pub(crate) fn tag_with_arm<'a>(
     arms: &Arms,
     other: Option<u32>,
     at: Cursor<'a>,
-) -> Result<((i128, u32), Cursor<'a>), Fault>
+) -> Taken<'a, (i128, u32)>
     ensures arm { IfOk result (λ x. arm_found arms.now other x.0.0 ≡ Some x.0.1) }
     ensures read { Reads number_of_tag result
         (read_pass enc (scalar_of tag.now) (lists arms.now other) BadValue at.entry.place at.entry.rest.now) }

@@ -34,14 +34,14 @@ mod RecvAsking
 mod RecvBounded
 -- Chunked code makes few tests for the value that it gives
 mod RecvTested
+-- * What the passes make of such code sends the messages
+mod Kept
 -- * Chunked code receives where the given code does
 mod RecvChunks
 -- Code with its ensures left out stores as much, and is allowed seven moves less for each check, by induction on the code
 mod Eased
 -- Code that goes through a type, with its rows as blocks, has few moves and few stores, by induction on the type
 mod Bounded
--- * What the passes make of such code sends the messages
-mod Kept
 -- The patch at the end of a message states its length
 mod Stated
 -- * The code of a head, inlined code and a patch append the message

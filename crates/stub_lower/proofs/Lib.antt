@@ -22,14 +22,18 @@ pub mod Exact
 pub mod Following
 -- What an encoding's leaves read: a scalar, a count
 pub mod RecvEncoded
--- What an item of a Mach message reads
-pub mod RecvItems
 -- Units of Mach messages, and so many elements of so many octets
 pub mod UnitLaws
--- What the leaves of Mach messages append: items, descriptors, rows and texts
-pub mod Mach
 -- What the code of a row or text reads, and that of XDR
 pub mod RecvArrays
+-- What the leaves of CDR read: numbers after their alignment, texts that end, rows
+pub mod RecvCdr
+-- What the code of a row or text reads over CDR
+pub mod RecvCdrArrays
+-- What an item of a Mach message reads
+pub mod RecvItems
+-- What the leaves of Mach messages append: items, descriptors, rows and texts
+pub mod Mach
 -- Where a scalar by itself passes a test: over each encoding the test may as well come last
 pub mod RecvPass
 -- The code of a node reads its values, over those of its parts
@@ -38,12 +42,8 @@ pub mod Receiving
 pub mod RecvBuilding
 -- What the descriptors of rows and texts of Mach messages read
 pub mod RecvDesc
--- What the leaves of CDR read: numbers after their alignment, texts that end, rows
-pub mod RecvCdr
 -- What the code of a row or text reads in a Mach message
 pub mod RecvMach
--- What the code of a row or text reads over CDR
-pub mod RecvCdrArrays
 -- The code of a node that receives goes through its type in order
 pub mod Tracing
 -- The code of a node sends its values, over those of its parts

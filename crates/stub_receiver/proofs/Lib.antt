@@ -10,14 +10,14 @@ pub mod Putting
 pub mod Digits
 -- * What is done to a part of a draft: it is taken out, changed and put back, by induction on the path to the part
 pub mod Within
--- * Operations that are run, one after the other
-pub mod Running
--- * The numbers of a row as a block
-pub mod Blocking
 -- * Numbers that are put into drafts
 pub mod Getting
 -- * Structs of numbers whose fields are read in order, by induction on the values that were read
 pub mod Flattening
+-- * Operations that are run, one after the other
+pub mod Running
+-- * The numbers of a row as a block
+pub mod Blocking
 -- * The numbers of a row are those of its image, by induction on how many numbers there are
 pub mod Images
 -- * Parts of drafts that are looked at
