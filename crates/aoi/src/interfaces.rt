@@ -1,17 +1,18 @@
-//! Interfaces and their operations.
+//! Interfaces and their operations. What operations have in common is kept once.
 
 use crate::{Fields, Ty};
 use kit_base::{Listed, Name};
+use kit_shared::Shared;
 
 /// An exception, with the id that stands for it in a message.
 #[derive(Debug, Drop)]
 pub struct Raise {
     /// Its name.
-    pub name: Name,
+    pub name: Shared<Name>,
     /// The repository id that messages have for it.
-    pub id: Name,
+    pub id: Shared<Name>,
     /// Its members, as those of a struct.
-    pub members: Fields,
+    pub members: Shared<Fields>,
 }
 
 /// The exceptions that an operation raises.
@@ -21,19 +22,19 @@ pub type Raises = Listed<Raise>;
 #[derive(Debug, Drop)]
 pub struct Operation {
     /// Its name.
-    pub name: Name,
+    pub name: Shared<Name>,
     /// The number of its procedure in an ONC program.
     pub proc_no: u32,
     /// The message id of its request, counted from `base` of its interface, and below `slots`.
     pub slot: u32,
     /// The parameters that go in, in order.
-    pub ins: Fields,
+    pub ins: Shared<Fields>,
     /// The parameters that come out, in order.
-    pub outs: Fields,
+    pub outs: Shared<Fields>,
     /// The type of what it returns, or `Void`.
-    pub result: Ty,
+    pub result: Shared<Ty>,
     /// The exceptions that it raises, at most 4,095.
-    pub raises: Raises,
+    pub raises: Shared<Raises>,
     /// Whether no reply is sent.
     pub oneway: bool,
 }
@@ -46,7 +47,7 @@ pub type Operations = Listed<Operation>;
 #[derive(Debug, Drop)]
 pub struct Interface {
     /// Its name, which no other interface of the unit has.
-    pub name: Name,
+    pub name: Shared<Name>,
     /// The number of its ONC program.
     pub program: u32,
     /// The number of its version of that program.

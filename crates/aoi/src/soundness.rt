@@ -306,7 +306,7 @@ fn is_sound_operation(types: &[(Name, Ty)], slots: u32, op: &Operation) -> bool
 {
     are_sound(op.ins.as_slice(), types, types.len())
         && are_sound(op.outs.as_slice(), types, types.len())
-        && is_sound_or_void(&op.result, types, types.len())
+        && is_sound_or_void(op.result.get(), types, types.len())
         && op.raises.len() <= MOST_RAISES
         && are_sound_raises(op.raises.as_slice(), types)
         && op.slot < slots

@@ -3,6 +3,7 @@
 use aoi::{Field, Fields, Interface, Operation, Operations, Raise, Raises, Ty, Unit, is_sound};
 use check_rows::Bad;
 use kit_base::{Name, NoMemory};
+use kit_shared::Shared;
 use mint::kind::{Count, Kind};
 use pres::{Bound, bind};
 use std::alloc::Global;
@@ -12,6 +13,10 @@ fn name(alloc: Global, text: &[u8]) -> Result<Name, NoMemory> {
     let mut name = Name::new(alloc);
     name.append(text)?;
     Ok(name)
+}
+
+fn shared_name(alloc: Global, text: &[u8]) -> Result<Shared<Name>, NoMemory> {
+    Shared::new(alloc, name(alloc, text)?)
 }
 
 fn one_field(alloc: Global, text: &[u8], ty: Ty) -> Result<Fields, NoMemory> {
@@ -25,9 +30,9 @@ fn one_field(alloc: Global, text: &[u8], ty: Ty) -> Result<Fields, NoMemory> {
 fn exception(alloc: Global) -> Result<Raises, NoMemory> {
     let mut raises = Raises::new(alloc);
     raises.push(Raise {
-        name: name(alloc, b"E")?,
-        id: name(alloc, b"IDL:E:1.0")?,
-        members: one_field(alloc, b"why", Ty::Text(Count::Any))?,
+        name: shared_name(alloc, b"E")?,
+        id: shared_name(alloc, b"IDL:E:1.0")?,
+        members: Shared::new(alloc, one_field(alloc, b"why", Ty::Text(Count::Any))?)?,
     })?;
     Ok(raises)
 }
@@ -40,13 +45,13 @@ fn operation(
     oneway: bool,
 ) -> Result<Operation, NoMemory> {
     Ok(Operation {
-        name: name(alloc, b"f")?,
+        name: shared_name(alloc, b"f")?,
         proc_no: 0,
         slot: 0,
-        ins: one_field(alloc, b"x", Ty::Num(Kind::I32))?,
-        outs,
-        result: Ty::Num(Kind::I32),
-        raises,
+        ins: Shared::new(alloc, one_field(alloc, b"x", Ty::Num(Kind::I32))?)?,
+        outs: Shared::new(alloc, outs)?,
+        result: Shared::new(alloc, Ty::Num(Kind::I32))?,
+        raises: Shared::new(alloc, raises)?,
         oneway,
     })
 }
@@ -57,7 +62,7 @@ fn bound(alloc: Global, operation: Operation, back: Back) -> Result<Bound, Bad> 
     ops.push(operation)?;
     let mut unit = Unit::new(alloc);
     let interface = Interface {
-        name: name(alloc, b"I")?,
+        name: shared_name(alloc, b"I")?,
         program: 1,
         version: 1,
         base: 0,

@@ -8,6 +8,7 @@ use aoi::{Fields, Interface, Operation, Operations, Raises, Ty, Unit, is_sound};
 use back_xdr::{lead_call, lead_reply};
 use cast_stub::{SendCode, SendOps, SendSubs};
 use kit_base::{Name, NoMemory};
+use kit_shared::Shared;
 use pres::{Bound, bind};
 use std::alloc::Global;
 use wire_def::{Back, Head, Order};
@@ -31,17 +32,17 @@ fn name(alloc: Global, text: &[u8]) -> Result<Name, NoMemory> {
 fn clock(alloc: Global) -> Result<Interface, NoMemory> {
     let mut ops = Operations::new(alloc);
     ops.push(Operation {
-        name: name(alloc, b"GET")?,
+        name: Shared::new(alloc, name(alloc, b"GET")?)?,
         proc_no: 7,
         slot: 0,
-        ins: Fields::new(alloc),
-        outs: Fields::new(alloc),
-        result: Ty::Void,
-        raises: Raises::new(alloc),
+        ins: Shared::new(alloc, Fields::new(alloc))?,
+        outs: Shared::new(alloc, Fields::new(alloc))?,
+        result: Shared::new(alloc, Ty::Void)?,
+        raises: Shared::new(alloc, Raises::new(alloc))?,
         oneway: false,
     })?;
     Ok(Interface {
-        name: name(alloc, b"CLOCK.V")?,
+        name: Shared::new(alloc, name(alloc, b"CLOCK.V")?)?,
         program: 0x2000_0001,
         version: 3,
         base: 1000,

@@ -162,7 +162,7 @@ fn put_operation(alloc: Global, out: &mut String, o: &Operation) -> Result<(), B
     out.push_str(")->(")?;
     put_fields(alloc, out, o.outs.as_slice())?;
     out.push_str(if o.oneway { ")oneway" } else { ")" })?;
-    out.push_str(if matches!(o.result, Ty::Void) {
+    out.push_str(if matches!(o.result.get(), Ty::Void) {
         "void"
     } else {
         ""

@@ -14,6 +14,7 @@ use corba_decls::{Exception, Struct};
 use corba_scopes::{Meaning, full_name, innermost, inside};
 use idl_names::{Tag, struct_of, want};
 use kit_base::{Name, NoMemory};
+use kit_shared::Shared;
 use std::alloc::Global;
 
 /// Declares a struct, after its members.
@@ -71,9 +72,9 @@ fn raised(alloc: Global, full: Name, fields: Fields) -> Result<Raise, NoMemory>
     ensures { IfOk result (λ e. plain_raise e ≡ raised full (members fields)) }
 {
     Ok(Raise {
-        id: repository(alloc, full.as_slice())?,
-        name: full,
-        members: fields,
+        id: Shared::new(alloc, repository(alloc, full.as_slice())?)?,
+        name: Shared::new(alloc, full)?,
+        members: Shared::new(alloc, fields)?,
     })
 }
 

@@ -44,7 +44,7 @@ fn put_types(out: &mut Octets, op: &Operation, types: &[(Name, Ty)]) -> Result<(
     put(out, b" (")?;
     put_parameters(out, b"", op.ins.as_slice(), types)?;
     put(out, b") -> (")?;
-    put_type(out, &op.result, types)?;
+    put_type(out, op.result.get(), types)?;
     put_parameters(out, b", ", op.outs.as_slice(), types)?;
     put(out, b")")
 }

@@ -4,8 +4,6 @@
 pub mod Indexing
 -- * Elements of lists, by their places, as plain trees, by induction on the list
 pub mod Getting
--- * What copies of a union and of arrays of arrays are seen as
-pub mod Copying
 -- A declaration puts types after the others, if any
 pub mod Growing
 -- The operations of interfaces are sound, by induction on parameters, raises, attribute names and inherited operations

@@ -18,6 +18,7 @@ use corba_shapes::{Form, Shapes, form_ty, type_form};
 use corba_syntax::Attribute;
 use idl_exprs::Identifier;
 use kit_base::{Name, NoMemory};
+use kit_shared::Shared;
 use std::alloc::Global;
 
 /// The name of the operation that gives an attribute.
@@ -39,13 +40,13 @@ fn getter(alloc: Global, name: &[u8], form: &Form) -> Result<Operation, NoMemory
     ensures { IfOk result (λ o. plain_operation o ≡ getter name.now (form_shape form.now [])) }
 {
     Ok(Operation {
-        name: get_name(alloc, name)?,
+        name: Shared::new(alloc, get_name(alloc, name)?)?,
         proc_no: 0,
         slot: 0,
-        ins: Fields::new(alloc),
-        outs: Fields::new(alloc),
-        result: form_ty(alloc, form, &[])?,
-        raises: Raises::new(alloc),
+        ins: Shared::new(alloc, Fields::new(alloc))?,
+        outs: Shared::new(alloc, Fields::new(alloc))?,
+        result: Shared::new(alloc, form_ty(alloc, form, &[])?)?,
+        raises: Shared::new(alloc, Raises::new(alloc))?,
         oneway: false,
     })
 }
@@ -64,13 +65,13 @@ fn setter(alloc: Global, name: &[u8], form: &Form) -> Result<Operation, NoMemory
     ensures { IfOk result (λ o. plain_operation o ≡ setter name.now (form_shape form.now [])) }
 {
     Ok(Operation {
-        name: set_name(alloc, name)?,
+        name: Shared::new(alloc, set_name(alloc, name)?)?,
         proc_no: 0,
         slot: 0,
-        ins: one_field(alloc, name, form)?,
-        outs: Fields::new(alloc),
-        result: Ty::Void,
-        raises: Raises::new(alloc),
+        ins: Shared::new(alloc, one_field(alloc, name, form)?)?,
+        outs: Shared::new(alloc, Fields::new(alloc))?,
+        result: Shared::new(alloc, Ty::Void)?,
+        raises: Shared::new(alloc, Raises::new(alloc))?,
         oneway: false,
     })
 }

@@ -7,7 +7,7 @@ ghost use Rattle.idl_names.specs.Answers.{Gives};
 ghost use Rattle.front_corba.specs.Held.{plain_offer, plain_offering, heirs, held};
 ghost use Rattle.front_corba.specs.Bases.{offer_clash, base_clash, inherited, inherited_on, joined_on, interface_at, new_base, base_on, bases_on};
 
-use crate::copies::copy_operation;
+use crate::copies::share_operation;
 use crate::named::Offers;
 use crate::offers::{add, operation_clash};
 use crate::state::{Heir, Offer, Offering, Resolver};
@@ -50,8 +50,8 @@ fn inherit_one(alloc: Global, d: u32, ops: &mut Offers, offer: &Offer) -> Result
     if ops.is_there(alloc, offer)? {
         return Ok(());
     }
-    let copy = copy_operation(alloc, &offer.operation)?;
-    add(alloc, d, offer.home, copy, ops)
+    let same = share_operation(&offer.operation)?;
+    add(alloc, d, offer.home, same, ops)
 }
 
 /// Puts the operations of a base after the others, without those that are there.

@@ -18,6 +18,7 @@ use corba_shapes::{Shapes, declare};
 use corba_syntax::{Export, Interface};
 use idl_names::refuse;
 use kit_base::Name;
+use kit_shared::Shared;
 use kit_base::limits::MOST_INTERFACES;
 use std::alloc::Global;
 
@@ -197,7 +198,8 @@ fn seated(
 {
     let (line, mut ops) = heritage(alloc, r, env, d, i)?;
     enter(alloc, env, d, home, line, &mut r.shapes, &mut ops, i)?;
-    r.interfaces.push(Offering { name: full, ops })?;
+    let name = Shared::new(alloc, full)?;
+    r.interfaces.push(Offering { name, ops })?;
     Ok(())
 }
 

@@ -21,6 +21,7 @@ use corba_syntax::{Operation as OperationTree, Reference};
 use idl_names::refuse;
 use kit_base::limits::MOST_OPERATIONS;
 use kit_base::{Name, NoMemory};
+use kit_shared::Shared;
 use std::alloc::Global;
 
 /// Whether there are exceptions.
@@ -72,13 +73,13 @@ fn operation_of(
         ≡ operation_of o.now (map seen_field ins) (map seen_field outs) (seen ty) (map plain_raise raises)) }
 {
     Ok(Operation {
-        name: copy_name(alloc, o.name.name.as_slice())?,
+        name: Shared::new(alloc, copy_name(alloc, o.name.name.as_slice())?)?,
         proc_no: 0,
         slot: 0,
-        ins,
-        outs,
-        result: ty,
-        raises,
+        ins: Shared::new(alloc, ins)?,
+        outs: Shared::new(alloc, outs)?,
+        result: Shared::new(alloc, ty)?,
+        raises: Shared::new(alloc, raises)?,
         oneway: o.oneway,
     })
 }

@@ -8,7 +8,7 @@ ghost use Rattle.idl_names.specs.Answers.{Gives};
 ghost use Rattle.corba_shapes.specs.Forms.{form_shape};
 ghost use Rattle.front_corba.specs.Parameters.{goes_in, comes_out, are_in, with_field, parameter_on, parameters_on, exception_at, with_raise, raised_by, raises_on};
 
-use crate::copies::{copy_name, copy_raise};
+use crate::copies::{copy_name, share_raise};
 use crate::{NameErr, NameFault};
 use aoi::{Field, Fields, Raise, Raises};
 use corba_scopes::{Entry, Meaning, Scopes, innermost};
@@ -143,13 +143,13 @@ fn exception_at(d: u32, entry: &Option<Entry>) -> Result<u32, NameErr>
     }
 }
 
-/// Puts a copy of an exception after the others.
-fn add_raise(alloc: Global, raises: &mut Raises, raise: Option<&Raise>) -> Result<(), NoMemory>
+/// Puts an exception after the others.
+fn add_raise(raises: &mut Raises, raise: Option<&Raise>) -> Result<(), NoMemory>
     ensures { OnOk result (map plain_raise raises.new
         ≡ with_raise (map plain_raise raises.old) (option_map plain_raise (option_copied raise.entry))) }
 {
     match raise {
-        Some(raise) => raises.push(copy_raise(alloc, raise)?),
+        Some(raise) => raises.push(share_raise(raise)?),
         None => Ok(()),
     }
 }
@@ -172,7 +172,7 @@ fn raise(
     let entry = scopes.named(alloc, env, &reference.name)?;
     let k = exception_at(d, &entry)?;
     refuse(NameFault::Limit, d, raises.len() >= MOST_RAISES)?;
-    add_raise(alloc, raises, exceptions.get(k as usize))?;
+    add_raise(raises, exceptions.get(k as usize))?;
     Ok(())
 }
 

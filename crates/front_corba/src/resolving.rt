@@ -14,7 +14,7 @@ ghost use Rattle.front_corba.specs.Held.{plain_offer, plain_offering, held};
 ghost use Rattle.front_corba.specs.Resolved.{begun_on, is_module, walk, module_walk, definitions_on, operations_of, interface, interfaces, are_fit, unit_of, resolved, IsWhole};
 
 use crate::NameErr;
-use crate::copies::copy_operation;
+use crate::copies::share_operation;
 use crate::interfaces::interface;
 use crate::state::{Offer, Offering, Resolver};
 use aoi::{Interface, Operations, Unit, UnitErr};
@@ -98,13 +98,13 @@ fn define_all(
     Ok(())
 }
 
-/// Copies of operations, without the interfaces in which they are declared.
+/// The operations, without the interfaces in which they are declared.
 fn operations(alloc: Global, ops: &[Offer]) -> Result<Operations, NoMemory>
     ensures { IfOk result (λ out. map plain_operation out ≡ operations_of (map plain_offer ops.now)) }
 {
     let mut out = Operations::new(alloc);
     for offer in ops {
-        out.push(copy_operation(alloc, &offer.operation)?)?;
+        out.push(share_operation(&offer.operation)?)?;
     }
     Ok(out)
 }
@@ -118,7 +118,7 @@ fn interface_of(alloc: Global, place: usize, i: &Offering) -> Result<Interface, 
     let place = place as u32;
     let ops = operations(alloc, i.ops.as_slice())?;
     Ok(Interface {
-        name: Name::from_slice(alloc, i.name.as_slice())?,
+        name: i.name.share()?,
         program: 0x2000_0000 + place,
         version: 1,
         base: 1000 * (place + 1),

@@ -10,6 +10,7 @@ use corba_scopes::BaseOrder;
 use corba_shapes::Shapes;
 use indexmap::IndexSet;
 use kit_base::{Listed, Name, NoMemory};
+use kit_shared::Shared;
 use std::alloc::Global;
 
 /// An operation of an interface.
@@ -25,7 +26,7 @@ pub(crate) struct Offer {
 #[derive(Drop)]
 pub(crate) struct Offering {
     /// Its full name.
-    pub(crate) name: Name,
+    pub(crate) name: Shared<Name>,
     /// Its operations: those of its bases, and then its own.
     pub(crate) ops: Offers,
 }

@@ -19,6 +19,7 @@ use aoi::{Fields, Operation, Raises, Ty};
 use idl_names::{Tag, array_of, tag_of_use, ty_of_use};
 use kit_base::limits::MOST_OPERATIONS;
 use kit_base::{Name, NoMemory};
+use kit_shared::Shared;
 use mig_syntax::{Routine, TypeForm};
 use std::alloc::Global;
 
@@ -73,13 +74,13 @@ fn operation(
         ≡ operation place slot name.now simple (map seen_field ins) (map seen_field outs)) }
 {
     Ok(Operation {
-        name: Name::from_slice(alloc, name)?,
+        name: Shared::new(alloc, Name::from_slice(alloc, name)?)?,
         proc_no: place + 1,
         slot,
-        ins,
-        outs,
-        result: Ty::Void,
-        raises: Raises::new(alloc),
+        ins: Shared::new(alloc, ins)?,
+        outs: Shared::new(alloc, outs)?,
+        result: Shared::new(alloc, Ty::Void)?,
+        raises: Shared::new(alloc, Raises::new(alloc))?,
         oneway: simple,
     })
 }

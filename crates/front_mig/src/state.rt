@@ -18,6 +18,7 @@ use crate::{Meaning, NameErr};
 use aoi::{Interface, Operation, Operations, Ty, Unit, UnitErr};
 use idl_names::{Names, Tag, Use, want};
 use kit_base::{Name, NoMemory};
+use kit_shared::Shared;
 use std::alloc::Global;
 use std::marker::Model;
 
@@ -155,7 +156,7 @@ impl Resolver {
         ensures err { IfErr result (λ e. e.fault ≡ OutOfMemory) }
     {
         let interface = Interface {
-            name: Name::from_slice(alloc, name)?,
+            name: Shared::new(alloc, Name::from_slice(alloc, name)?)?,
             program: 0x2000_0000,
             version: 1,
             base,

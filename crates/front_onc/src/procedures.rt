@@ -17,6 +17,7 @@ use idl_names::{Names, add_number, has_number, refuse, ty_of_use};
 use indexmap::IndexSet;
 use kit_base::limits::MOST_OPERATIONS;
 use kit_base::{Name, NoMemory};
+use kit_shared::Shared;
 use mint::kind::Count;
 use onc_syntax::{ProcType, Procedure};
 use std::alloc::Global;
@@ -111,13 +112,13 @@ fn operation(
         (λ o. plain_operation o ≡ operation slot name.now proc_no (map seen_field ins) (seen ty)) }
 {
     Ok(Operation {
-        name: Name::from_slice(alloc, name)?,
+        name: Shared::new(alloc, Name::from_slice(alloc, name)?)?,
         proc_no,
         slot,
-        ins,
-        outs: Fields::new(alloc),
-        result: ty,
-        raises: Raises::new(alloc),
+        ins: Shared::new(alloc, ins)?,
+        outs: Shared::new(alloc, Fields::new(alloc))?,
+        result: Shared::new(alloc, ty)?,
+        raises: Shared::new(alloc, Raises::new(alloc))?,
         oneway: false,
     })
 }

@@ -16,6 +16,7 @@ use aoi::{Interface, Operations};
 use idl_names::{Names, refuse, want};
 use kit_base::limits::MOST_INTERFACES;
 use kit_base::{Name, NoMemory};
+use kit_shared::Shared;
 use onc_syntax::{Value, Version};
 use std::alloc::Global;
 
@@ -46,7 +47,7 @@ fn interface(
     ensures ops { IfOk result (λ i. i.ops ≡ ops) }
 {
     Ok(Interface {
-        name: interface_name(alloc, program, name)?,
+        name: Shared::new(alloc, interface_name(alloc, program, name)?)?,
         program: number,
         version,
         base: 1000 * (place as u32 + 1),
