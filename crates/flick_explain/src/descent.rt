@@ -124,10 +124,7 @@ fn fields<'a>(
 
 /// The word at a place.
 pub fn word_at(words: &FieldTable, i: usize) -> &[u8] {
-    match words.as_slice().get(i) {
-        Some(word) => word.as_slice(),
-        None => &[],
-    }
+    if i < words.len() { words.name(i) } else { &[] }
 }
 
 /// The first argument that does not fit, or how many are wanted.

@@ -82,13 +82,10 @@ pub(crate) fn field_path(
     names: &FieldTable,
     i: usize,
 ) -> Result<String, NoMemory> {
-    match names.as_slice().get(i) {
-        Some(name) => {
-            let name = pres::text_of(alloc, name.as_slice())?;
-            member_path(alloc, path, name.as_str())
-        }
-        None => owned(alloc, path),
+    if i >= names.len() {
+        return owned(alloc, path);
     }
+    member_path(alloc, path, names.text(i))
 }
 
 /// The path of a member.

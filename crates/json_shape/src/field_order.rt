@@ -17,7 +17,7 @@ const MOST_FIELDS: usize = 32;
 pub(crate) fn order_of(alloc: Global, names: &FieldTable) -> Result<Vec<usize>, Halt>
     ensures { IfOk result (λ o. IsOrder names.now o.items) }
 {
-    let mut i = names.as_slice().len();
+    let mut i = names.len();
     if i > MOST_FIELDS {
         return Err(Halt::Fallback);
     }
@@ -52,7 +52,7 @@ fn place_of(names: &FieldTable, i: usize, order: &[usize]) -> Result<usize, Halt
 fn key_at(names: &FieldTable, i: usize) -> Result<&str, Halt>
     ensures { IfOk result (λ k. k.now ≡ key_at names.now i) }
 {
-    if i >= names.as_slice().len() {
+    if i >= names.len() {
         return Err(Halt::Fallback);
     }
     Ok(names.text(i))

@@ -1,7 +1,10 @@
 -- Exceptions that are found by their names, by induction on the exceptions and on the operations.
-use Rattle.std.proofs.Common.{◌≡◌, true, ℕ, zero, suc, ◌+◌, ◌<◌, ◌≤◌, List, [], ◌∷◌, ◌++◌, length, map, drop, take, get_or, Option, None, Some, String, refl, ap, sym, ◌∙◌, subst, append_assoc, append-nil, arith}
+use Rattle.std.proofs.Common.{◌≡◌, Bool, cond, true, ℕ, zero, suc, ◌+◌, ◌<◌, ◌≤◌, List, [], ◌∷◌, ◌++◌, length, map, drop, take, get_or, Option, None, Some, String, refl, ap, sym, ◌∙◌, subst, append_assoc, append-nil, arith}
 use Rattle.std.specs.Prelude.{if◌then◌else◌, slice_index_or}
-use Rattle.std.specs.BTreeMap.{BTreeMap, IsEmpty, get_by_text}
+use Rattle.std.specs.BTreeMap.{BTreeMap, get_by_text}
+use Rattle.std.specs.List.{position_from}
+use Rattle.std.specs.Str.{IsAscii, bytes_eq}
+use Rattle.std.proofs.lemmas.Str.{encodes-IsAscii}
 use Rattle.std.proofs.lemmas.List.{map-append, take_more}
 use Rattle.wire_def.specs.declared.encoding.Back.{Back}
 use Rattle.aoi.specs.declared.interfaces.Interface.{Interface}
@@ -9,38 +12,54 @@ use Rattle.aoi.specs.declared.interfaces.Operation.{Operation}
 use Rattle.aoi.specs.declared.interfaces.Raise.{Raise}
 use Rattle.aoi.specs.Plain.{PlainRaise, PlainOperation, PlainInterface, plain_raise, plain_operation, plain_interface}
 use Rattle.pres.specs.Offers.{gets_null}
-use Rattle.pres.specs.Raises.{FindEach, FindMore, FindsRaises, raise_from, raises_of, sources, sources_of}
+use Rattle.pres.specs.Raises.{FindEach, FindMore, FindsRaises, names_in, number_from, raise_from, raises_of, sources, sources_of}
+use Rattle.pres.specs.Tables.{AreAscii, text_of}
 
 -- ---- the exceptions of an operation
 
--- a map that finds the exceptions from a place on
-pub record FindsFrom {Y : Type 0} (rs : List Raise) (n : ℕ) (m : BTreeMap (String Y) ℕ) : Type 0 where
-  pub within : n ≤ length rs
-  pub found : (s : List ℕ) → get_by_text m s ≡ raise_from s (suc n) (map plain_raise (drop n rs))
+-- a map that finds the names from a place on
+pub record FindsFrom {Y : Type 0} (names : List (List ℕ)) (n : ℕ) (m : BTreeMap (String Y) ℕ) : Type 0 where
+  pub within : n ≤ length names
+  pub found : (s : List ℕ) → get_by_text m s ≡ number_from s (suc n) (drop n names)
 
--- an empty map finds nothing
-pub none_found : {Y : Type 0} (m : BTreeMap (String Y) ℕ) → IsEmpty m → (s : List ℕ) → get_by_text m s ≡ None
-none_found m empty s = rw empty refl
+-- exceptions are found by their names
+pub named : (rs : List PlainRaise) (k : ℕ) (s : List ℕ) → number_from s k (names_in rs) ≡ raise_from s k rs
+named [] k s = refl
+named (r ∷ rs) k s = ap (λ (z : Option ℕ). if bytes_eq (text_of r.name) s then Some k else z) (named rs (suc k) s)
+
+-- a name of ASCII is the string of its octets
+ascii_name : (name s : List ℕ) → IsAscii name → bytes_eq name s ≡ bytes_eq (text_of name) s
+ascii_name name s h = ap (λ (t : List ℕ). bytes_eq t s) (sym (encodes-IsAscii name h))
+
+-- among names of ASCII octets are found as the string that they are
+pub ascii_found : (names : List (List ℕ)) (k : ℕ) (s : List ℕ) → AreAscii names
+    → position_from (λ (n : List ℕ). bytes_eq n s) k names ≡ number_from s k names
+ascii_found [] k s h = refl
+ascii_found (n ∷ ns) k s h =
+    let next : k + 1 ≡ suc k = omega arith in
+    ap (λ (b : Bool). cond b (Some k) (position_from (λ (m : List ℕ). bytes_eq m s) (k + 1) ns)) (ascii_name n s h.0)
+    ∙ ap (λ (j : ℕ). cond (bytes_eq (text_of n) s) (Some k) (position_from (λ (m : List ℕ). bytes_eq m s) j ns)) next
+    ∙ ap (λ (o : Option ℕ). cond (bytes_eq (text_of n) s) (Some k) o) (ascii_found ns (suc k) s h.1)
 
 -- ---- the operations, one after another
 
 -- one more map finds the exceptions of one more operation
-find_one : {Y : Type 0} (ops : List (Option PlainOperation)) (maps : List (BTreeMap (String Y) ℕ)) (op : Option PlainOperation)
-    (m : BTreeMap (String Y) ℕ) → FindEach ops maps → FindsRaises (raises_of op) m → FindEach (ops ++ op ∷ []) (maps ++ m ∷ [])
+find_one : (ops : List (Option PlainOperation)) (maps : List (List (List ℕ))) (op : Option PlainOperation)
+    (m : List (List ℕ)) → FindEach ops maps → FindsRaises (raises_of op) m → FindEach (ops ++ op ∷ []) (maps ++ m ∷ [])
 find_one [] [] op m h g = (g, tt)
 find_one [] (x ∷ maps) op m h g = absurd h
 find_one (o ∷ ops) [] op m h g = absurd h
 find_one (o ∷ ops) (x ∷ maps) op m h g = (h.0, find_one ops maps op m h.1 g)
 
 -- one more map, for one more operation
-more_one : {Y : Type 0} (op : Option PlainOperation) (m : BTreeMap (String Y) ℕ) (old new : List (BTreeMap (String Y) ℕ))
+more_one : (op : Option PlainOperation) (m : List (List ℕ)) (old new : List (List (List ℕ)))
     → FindsRaises (raises_of op) m → new ≡ old ++ m ∷ [] → FindMore (op ∷ []) old new
-more_one {Y} op m old new g e = record {
-  found = λ before h. subst (λ (l : List (BTreeMap (String Y) ℕ)). FindEach (before ++ op ∷ []) l) (sym e) (find_one before old op m h g);
+more_one op m old new g e = record {
+  found = λ before h. subst (λ (l : List (List (List ℕ))). FindEach (before ++ op ∷ []) l) (sym e) (find_one before old op m h g);
 }
 
 -- some operations, and then others
-more_trans : {Y : Type 0} (xs ys : List (Option PlainOperation)) (old now new : List (BTreeMap (String Y) ℕ))
+more_trans : (xs ys : List (Option PlainOperation)) (old now new : List (List (List ℕ)))
     → FindMore xs old now → FindMore ys now new → FindMore (xs ++ ys) old new
 more_trans xs ys old now new f g = record {
   found = λ before h. subst (λ (l : List (Option PlainOperation)). FindEach l new) (append_assoc before xs ys)
@@ -48,9 +67,9 @@ more_trans xs ys old now new f g = record {
 }
 
 -- the procedure that an interface gets
-pub gotten_more : {Y : Type 0} (b : Back) (i : PlainInterface) (m : BTreeMap (String Y) ℕ) (old new : List (BTreeMap (String Y) ℕ))
-    → true ≡ gets_null b i → IsEmpty m → new ≡ old ++ m ∷ [] → FindMore (if gets_null b i then None ∷ [] else []) old new
-gotten_more b i m old new e empty put = rw (← e) (more_one None m old new (none_found m empty) put)
+pub gotten_more : (b : Back) (i : PlainInterface) (m : List (List ℕ)) (old new : List (List (List ℕ)))
+    → true ≡ gets_null b i → m ≡ [] → new ≡ old ++ m ∷ [] → FindMore (if gets_null b i then None ∷ [] else []) old new
+gotten_more b i m old new e empty put = rw (← e) (more_one None m old new (λ s. rw empty refl) put)
 
 -- operations as their file has them
 abbrev pub own : List Operation → List (Option PlainOperation)
@@ -62,8 +81,8 @@ own-append [] ys = refl
 own-append (x ∷ xs) ys = ap (λ z. Some (plain_operation x) ∷ z) (own-append xs ys)
 
 -- one more operation of an interface
-pub operation_more : {Y : Type 0} (ops : List Operation) (i : ℕ) (op : Operation) (rs : List Raise) (m : BTreeMap (String Y) ℕ)
-    (old now new : List (BTreeMap (String Y) ℕ)) → i < length ops → op ≡ get_or ops i op → rs ≡ op.raises
+pub operation_more : (ops : List Operation) (i : ℕ) (op : Operation) (rs : List Raise) (m : List (List ℕ))
+    (old now new : List (List (List ℕ))) → i < length ops → op ≡ get_or ops i op → rs ≡ op.raises
     → FindsRaises (map plain_raise rs) m → new ≡ now ++ m ∷ [] → FindMore (own (take i ops)) old now
     → FindMore (own (take (i + 1) ops)) old new
 operation_more ops i op rs m old now new there is rs_are g e f =
@@ -81,7 +100,7 @@ sources-append b (x ∷ xs) ys =
     ap (λ z. sources_of b x ++ z) (sources-append b xs ys) ∙ sym (append_assoc (sources_of b x) (sources b xs) (sources b ys))
 
 -- one more interface
-pub interface_more : {Y : Type 0} (b : Back) (is : List Interface) (k : ℕ) (i : Interface) (old now new : List (BTreeMap (String Y) ℕ))
+pub interface_more : (b : Back) (is : List Interface) (k : ℕ) (i : Interface) (old now new : List (List (List ℕ)))
     → k < length is → i ≡ get_or is k i → FindMore (sources_of b (plain_interface i)) now new
     → FindMore (sources b (map plain_interface (take k is))) old now
     → FindMore (sources b (map plain_interface (take (k + 1) is))) old new
@@ -98,27 +117,27 @@ interface_more b is k i old now new there at g f =
     (more_trans (sources b (map plain_interface (take k is))) (sources_of b (plain_interface i)) old now new f g)
 
 -- all interfaces, where no map was there
-pub all_found : {Y : Type 0} (b : Back) (is js : List Interface) (old new : List (BTreeMap (String Y) ℕ)) → js ≡ is → old ≡ []
+pub all_found : (b : Back) (is js : List Interface) (old new : List (List (List ℕ))) → js ≡ is → old ≡ []
     → FindMore (sources b (map plain_interface js)) old new → FindEach (sources b (map plain_interface is)) new
-all_found {Y} b is js old new e none f =
+all_found b is js old new e none f =
     let more : FindMore (sources b (map plain_interface is)) [] new =
-    subst (λ (l : List (BTreeMap (String Y) ℕ)). FindMore (sources b (map plain_interface is)) l new) none
+    subst (λ (l : List (List (List ℕ))). FindMore (sources b (map plain_interface is)) l new) none
     (subst (λ (l : List Interface). FindMore (sources b (map plain_interface l)) old new) e f) in
     more.found [] tt
 
 -- ---- the exceptions of the operation of a number
 
 -- the map of a number finds the exceptions of the operation of the number
-found_at : {Y : Type 0} (ops : List (Option PlainOperation)) (maps : List (BTreeMap (String Y) ℕ)) (k : ℕ) (m : BTreeMap (String Y) ℕ)
+found_at : (ops : List (Option PlainOperation)) (maps : List (List (List ℕ))) (k : ℕ) (m : List (List ℕ))
     → FindEach ops maps → k < length maps → m ≡ get_or maps k m → FindsRaises (raises_of (slice_index_or ops k None)) m
-found_at {Y} [] [] k m f h is = absurd (omega (arith, h))
-found_at {Y} [] (x ∷ maps) k m f h is = absurd f
-found_at {Y} (o ∷ ops) [] k m f h is = absurd f
-found_at {Y} (o ∷ ops) (x ∷ maps) zero m f h is = subst (λ (z : BTreeMap (String Y) ℕ). FindsRaises (raises_of o) z) (sym is) f.0
-found_at {Y} (o ∷ ops) (x ∷ maps) (suc k) m f h is = found_at ops maps k m f.1 (omega (arith, h)) is
+found_at [] [] k m f h is = absurd (omega (arith, h))
+found_at [] (x ∷ maps) k m f h is = absurd f
+found_at (o ∷ ops) [] k m f h is = absurd f
+found_at (o ∷ ops) (x ∷ maps) zero m f h is = subst (λ (z : List (List ℕ)). FindsRaises (raises_of o) z) (sym is) f.0
+found_at (o ∷ ops) (x ∷ maps) (suc k) m f h is = found_at ops maps k m f.1 (omega (arith, h)) is
 
 -- an operation without a map raises nothing
-none_past : {Y : Type 0} (ops : List (Option PlainOperation)) (maps : List (BTreeMap (String Y) ℕ)) (k : ℕ) → FindEach ops maps
+none_past : (ops : List (Option PlainOperation)) (maps : List (List (List ℕ))) (k : ℕ) → FindEach ops maps
     → length maps ≤ k → raises_of (slice_index_or ops k None) ≡ []
 none_past [] [] k f h = refl
 none_past [] (x ∷ maps) k f h = absurd f
@@ -127,14 +146,14 @@ none_past (o ∷ ops) (x ∷ maps) zero f h = absurd (omega (arith, h))
 none_past (o ∷ ops) (x ∷ maps) (suc k) f h = none_past ops maps k f.1 (omega (arith, h))
 
 -- the number of a name among the exceptions of the operation of a number
-pub raise_at : {Y : Type 0} (ops : List (Option PlainOperation)) (maps all : List (BTreeMap (String Y) ℕ)) (k : ℕ)
-    (m : BTreeMap (String Y) ℕ) (s : List ℕ) → FindEach ops maps → all ≡ maps → k < length all → m ≡ get_or all k m
-    → get_by_text m s ≡ raise_from s 1 (raises_of (slice_index_or ops k None))
-raise_at {Y} ops maps all k m s f same h is =
-    found_at ops all k m (subst (λ (l : List (BTreeMap (String Y) ℕ)). FindEach ops l) (sym same) f) h is s
+pub raise_at : (ops : List (Option PlainOperation)) (maps all : List (List (List ℕ))) (k : ℕ)
+    (m : List (List ℕ)) (s : List ℕ) → FindEach ops maps → all ≡ maps → k < length all → m ≡ get_or all k m
+    → number_from s 1 m ≡ raise_from s 1 (raises_of (slice_index_or ops k None))
+raise_at ops maps all k m s f same h is =
+    found_at ops all k m (subst (λ (l : List (List (List ℕ))). FindEach ops l) (sym same) f) h is s
 
 -- after the last map no name is found
-pub raise_past : {Y : Type 0} (ops : List (Option PlainOperation)) (maps all : List (BTreeMap (String Y) ℕ)) (k : ℕ) (s : List ℕ)
+pub raise_past : (ops : List (Option PlainOperation)) (maps all : List (List (List ℕ))) (k : ℕ) (s : List ℕ)
     → FindEach ops maps → all ≡ maps → length all ≤ k → None ≡ raise_from s 1 (raises_of (slice_index_or ops k None))
 raise_past ops maps all k s f same h =
     ap (λ (l : List PlainRaise). raise_from s 1 l) (sym (none_past ops maps k f (omega (arith, h, ap length same))))

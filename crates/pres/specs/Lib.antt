@@ -10,4 +10,5 @@ pub mod Sizes
 pub mod Regular
 pub mod Laws
 pub mod Tables
+pub mod Fielded
 pub mod Raises

@@ -1,5 +1,5 @@
 -- The exceptions that operations raise.
-use Rattle.std.specs.Prelude.{◌≡◌, ◌++◌, ℕ, suc, List, [], ◌∷◌, map, Option, Some, None, String, if◌then◌else◌, slice_index_or}
+use Rattle.std.specs.Prelude.{◌≡◌, ◌++◌, ◌+◌, ◌<◌, ◌^◌, length, ℕ, suc, List, [], ◌∷◌, map, Option, Some, None, String, if◌then◌else◌, slice_index_or}
 use Rattle.std.specs.BTreeMap.{BTreeMap, get_by_text}
 use Rattle.std.specs.List.{AllZip}
 use Rattle.std.specs.Option.{option_map_or}
@@ -8,7 +8,7 @@ use Rattle.wire_def.specs.declared.encoding.Back.{Back}
 use Rattle.aoi.specs.Plain.{PlainRaise, PlainOperation, PlainInterface}
 use Rattle.pres.specs.Bindings.{Binding, IsBinding}
 use Rattle.pres.specs.Offers.{gets_null}
-use Rattle.pres.specs.Tables.{text_of}
+use Rattle.pres.specs.Tables.{AreAscii, text_of}
 
 -- the operations of an interface as its file has them, and none for a procedure that it gets
 abbrev pub sources_of : Back → PlainInterface → List (Option PlainOperation)
@@ -36,20 +36,34 @@ abbrev pub raise_from : List ℕ → ℕ → List PlainRaise → Option ℕ
 raise_from s k [] = None
 raise_from s k (r ∷ rs) = if bytes_eq (text_of r.name) s then Some k else raise_from s (suc k) rs
 
+-- the place, from k on, of the first name that a string is
+abbrev pub number_from : List ℕ → ℕ → List (List ℕ) → Option ℕ
+number_from s k [] = None
+number_from s k (n ∷ ns) = if bytes_eq (text_of n) s then Some k else number_from s (suc k) ns
+
+-- the names of exceptions
+abbrev pub names_in : List PlainRaise → List (List ℕ)
+names_in rs = map (λ (r : PlainRaise). r.name) rs
+
 module _ {Y : Type 0} where
-  -- a map that finds the number of each exception by its name, from 1
-  abbrev pub FindsRaises : List PlainRaise → BTreeMap (String Y) ℕ → Type 0
-  FindsRaises rs m = (s : List ℕ) → get_by_text m s ≡ raise_from s 1 rs
+  -- what finds names: a map of the strings that they are, or none where all are of ASCII
+  abbrev pub IsTable : List (List ℕ) → Option (BTreeMap (String Y) ℕ) → Type 0
+  IsTable names None = (length names + 1 < 2 ^ 32) × AreAscii names
+  IsTable names (Some m) = (s : List ℕ) → get_by_text m s ≡ number_from s 1 names
 
-  -- maps that find the exceptions of operations, one map for each operation
-  abbrev pub FindEach : List (Option PlainOperation) → List (BTreeMap (String Y) ℕ) → Type 0
-  FindEach ops maps = AllZip (λ op m. FindsRaises (raises_of op) m) ops maps
+-- names among which the number of each exception is found
+abbrev pub FindsRaises : List PlainRaise → List (List ℕ) → Type 0
+FindsRaises rs names = (s : List ℕ) → number_from s 1 names ≡ raise_from s 1 rs
 
-  -- maps in place of others: they find the exceptions of more operations, after those that the others find
-  pub record FindMore (ops : List (Option PlainOperation)) (old new : List (BTreeMap (String Y) ℕ)) : Type 0 where
-    pub found : (before : List (Option PlainOperation)) → FindEach before old → FindEach (before ++ ops) new
+-- names for each operation, among which its exceptions are found
+abbrev pub FindEach : List (Option PlainOperation) → List (List (List ℕ)) → Type 0
+FindEach ops tables = AllZip (λ op names. FindsRaises (raises_of op) names) ops tables
 
-  -- a binding, with maps that find the exceptions of its operations
-  pub record IsBound (b : Binding) (maps : List (BTreeMap (String Y) ℕ)) : Type 0 where
-    pub stands : IsBinding b
-    pub finds : FindEach (sources b.back b.unit.interfaces) maps
+-- tables in place of others: they find the exceptions of more operations, after those that the others find
+pub record FindMore (ops : List (Option PlainOperation)) (old new : List (List (List ℕ))) : Type 0 where
+  pub found : (before : List (Option PlainOperation)) → FindEach before old → FindEach (before ++ ops) new
+
+-- a binding, with tables that find the exceptions of its operations
+pub record IsBound (b : Binding) (tables : List (List (List ℕ))) : Type 0 where
+  pub stands : IsBinding b
+  pub finds : FindEach (sources b.back b.unit.interfaces) tables

@@ -8,7 +8,7 @@ ghost use Rattle.pres.specs.Faces.{face_at, faces, level, type_of};
 ghost use Rattle.pres.specs.Named.{IsNamed};
 ghost use Rattle.pres.specs.Raises.{IsBound, raise_from, raises};
 
-use crate::raises::{RaiseTables, number_in};
+use crate::raises::RaiseTables;
 use crate::{Ops, Pres, Shape};
 use aoi::Unit;
 use mint::node::Node;
@@ -94,7 +94,7 @@ impl Bound {
         ensures { result ≡ raise_from text.now 1 (raises self.now op) }
     {
         match self.tables.get(op as usize) {
-            Some(table) => number_in(table, text),
+            Some(table) => table.number(text),
             None => None,
         }
     }

@@ -2,6 +2,7 @@
 
 ghost use Rattle.std.specs.Prelude.{[], ◌∷◌, ◌++◌, length, IfOk, IfErr, OnOk, IsTrue, None};
 ghost use Rattle.std.specs.Option.{option_map};
+ghost use Rattle.aoi.specs.Sound.{names_of};
 ghost use Rattle.aoi.specs.Shapes.{seen, members, array, arrayed, structure, optional, enumeration, arms_seen, default_of};
 ghost use Rattle.mint.specs.Types.{ArmsBelow, IsBelow};
 ghost use Rattle.pres.specs.Faces.{arms_at, choice};
@@ -11,11 +12,12 @@ ghost use Rattle.pres.specs.Offers.{face_of, arms_of, sign_in};
 
 use crate::draft::Draft;
 use crate::elements::Element;
-use crate::naming::{copy_items, field_names};
+use crate::naming::{copy_items, field_names, member_names};
 use crate::sorting::{labels_of, put_arm};
-use crate::{BindErr, ItemTable, Shape};
-use aoi::{Field, Items, Ty};
+use crate::{BindErr, FieldTable, ItemTable, Shape};
+use aoi::{Field, Fields, Items, Ty};
 use kit_base::NoMemory;
+use kit_shared::Shared;
 use mint::kind::Count;
 use mint::node::{Arms, Node, NodeIds};
 use mint::table::NodeId;
@@ -124,7 +126,7 @@ impl Draft {
     }
 
     #[cycle(draw)]
-    pub(crate) fn draw_struct(&mut self, alloc: Global, fields: &[Field]) -> Result<NodeId, BindErr>
+    fn draw_struct(&mut self, alloc: Global, fields: &[Field]) -> Result<NodeId, BindErr>
         requires { IsTrue (is_drawable (length (known self.old)) (structure (members fields.now))) }
         ensures grows { OnOk result
             (Grows self.old self.new (made (known self.old) (structure (members fields.now)))) }
@@ -133,9 +135,48 @@ impl Draft {
         ensures cause { IfErr result
             (λ e. Overflows (drawn self.old ++ made (known self.old) (structure (members fields.now))) e) }
     {
-        let ids = self.draw_fields(alloc, fields)?;
         let names = field_names(alloc, fields)?;
+        self.draw_group(alloc, fields, names)
+    }
+
+    /// Draws the nodes of fields by their names.
+    #[cycle(draw)]
+    pub(crate) fn draw_group(
+        &mut self,
+        alloc: Global,
+        fields: &[Field],
+        names: FieldTable,
+    ) -> Result<NodeId, BindErr>
+        requires drawable { IsTrue
+            (is_drawable (length (known self.old)) (structure (members fields.now))) }
+        requires names { names ≡ names_of (members fields.now) }
+        ensures grows { OnOk result
+            (Grows self.old self.new (made (known self.old) (structure (members fields.now)))) }
+        ensures id { IfOk result
+            (λ id. IsDrawn self.new id (face_of (known self.old) (structure (members fields.now)))) }
+        ensures cause { IfErr result
+            (λ e. Overflows (drawn self.old ++ made (known self.old) (structure (members fields.now))) e) }
+    {
+        let ids = self.draw_fields(alloc, fields)?;
         self.push(Node::Group(ids), Shape::FieldNames(names))
+    }
+
+    /// Draws the nodes of an exception, whose members are kept once.
+    pub(crate) fn draw_exception(
+        &mut self,
+        alloc: Global,
+        fields: &Shared<Fields>,
+    ) -> Result<NodeId, BindErr>
+        requires { IsTrue (is_drawable (length (known self.old)) (structure (members fields.now))) }
+        ensures grows { OnOk result
+            (Grows self.old self.new (made (known self.old) (structure (members fields.now)))) }
+        ensures id { IfOk result
+            (λ id. IsDrawn self.new id (face_of (known self.old) (structure (members fields.now)))) }
+        ensures cause { IfErr result
+            (λ e. Overflows (drawn self.old ++ made (known self.old) (structure (members fields.now))) e) }
+    {
+        let names = member_names(alloc, fields)?;
+        self.draw_group(alloc, fields.as_slice(), names)
     }
 
     /// Draws the nodes of fields, and gives theirs in order.

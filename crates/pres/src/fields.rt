@@ -1,40 +1,93 @@
-//! The names of fields, with their texts.
+//! The names of fields, as octets and as strings.
 
-ghost use Rattle.std.specs.Prelude.{◌≡◌, ◌<◌, length, map, IfOk, [], string_bytes, slice_index_or};
-ghost use Rattle.pres.specs.Tables.{text_of, texts_of};
+ghost use Rattle.std.specs.Prelude.{◌≡◌, ◌<◌, length, map, true, IfOk, [], string_bytes, slice_index_or};
+ghost use Rattle.std.specs.Str.{IsAscii};
+ghost use Rattle.aoi.specs.Shapes.{members};
+ghost use Rattle.aoi.specs.Sound.{names_of};
+ghost use Rattle.pres.specs.Fielded.{AreTexts, names_held};
+ghost use Rattle.pres.specs.Tables.{AreAscii, text_of, texts_of};
 
 use crate::texts::text_of;
-use kit_base::{NoMemory, Octets, Words};
+use aoi::{Field, Fields};
+use kit_base::{Listed, NoMemory, Octets, Words};
+use kit_shared::Shared;
 use std::alloc::Global;
 use std::marker::Model;
 
-/// The names of fields in order, each with the string that it is as a key.
+/// The names of fields in order: of its own, or those of an exception's members. Each is a string by itself where it is
+/// of ASCII; where one is not, each has its string beside it.
 #[derive(Drop)]
 pub struct FieldTable {
-    names: Words,
-    texts: Vec<String>,
+    own: Words,
+    fields: Option<Shared<Fields>>,
+    texts: Option<Listed<String>>,
 }
 
 impl Model for FieldTable {
-    ghost use Rattle.std.specs.Prelude.{◌≡◌, ℕ, List, map, string_bytes};
-    ghost use Rattle.pres.specs.Tables.{texts_of};
+    ghost use Rattle.std.specs.Prelude.{ℕ, List};
+    ghost use Rattle.pres.specs.Fielded.{AreTexts, names_held};
 
     ghost Value = { List (List ℕ) };
 
-    ghost view = { λ t. t.names };
+    ghost view = { λ t. names_held t.own t.fields };
 
-    ghost invariant = { λ t. map string_bytes t.texts.items ≡ texts_of t.names };
+    ghost invariant = { λ t. AreTexts (names_held t.own t.fields) t.texts };
+}
+
+/// Whether names are of ASCII.
+fn are_ascii(names: &[Octets]) -> bool
+    ensures { result ≡ true → AreAscii names.now }
+{
+    for name in names {
+        if !name.as_slice().is_ascii() {
+            return false;
+        }
+    }
+    true
 }
 
 /// The strings of names.
-fn texts_of(alloc: Global, names: &[Octets]) -> Result<Vec<String>, NoMemory>
-    ensures { IfOk result (λ texts. map string_bytes texts.items ≡ texts_of names.now) }
+fn texts_of(alloc: Global, names: &[Octets]) -> Result<Listed<String>, NoMemory>
+    ensures { IfOk result (λ texts. map string_bytes texts ≡ texts_of names.now) }
 {
-    let mut texts = Vec::new(alloc);
+    let mut texts = Listed::new(alloc);
     for name in names {
         texts.push(text_of(alloc, name.as_slice())?)?;
     }
     Ok(texts)
+}
+
+/// The strings of names, where one is not of ASCII.
+fn strings(alloc: Global, names: &[Octets]) -> Result<Option<Listed<String>>, NoMemory>
+    ensures { IfOk result (λ texts. AreTexts names.now texts) }
+{
+    if are_ascii(names) {
+        return Ok(None);
+    }
+    Ok(Some(texts_of(alloc, names)?))
+}
+
+/// Whether the names of fields are of ASCII.
+pub(crate) fn are_plain(fields: &[Field]) -> bool
+    ensures { result ≡ true → AreAscii (names_of (members fields.now)) }
+{
+    for field in fields {
+        if !field.name.as_slice().is_ascii() {
+            return false;
+        }
+    }
+    true
+}
+
+/// Octets of ASCII as a string.
+fn as_text(octets: &[u8]) -> &str
+    requires { IsAscii octets.now }
+    ensures { result.now ≡ text_of octets.now }
+{
+    match str::from_utf8(octets) {
+        Ok(text) => text,
+        Err(_) => unreachable!(),
+    }
 }
 
 impl FieldTable {
@@ -42,15 +95,48 @@ impl FieldTable {
     pub(crate) fn new(alloc: Global, names: Words) -> Result<FieldTable, NoMemory>
         ensures { IfOk result (λ t. t ≡ names) }
     {
-        let texts = texts_of(alloc, names.as_slice())?;
-        Ok(FieldTable { names, texts })
+        let texts = strings(alloc, names.as_slice())?;
+        Ok(FieldTable {
+            own: names,
+            fields: None,
+            texts,
+        })
     }
 
-    /// The names.
-    pub fn as_slice(&self) -> &[Octets]
-        ensures { result.now ≡ self.now }
+    /// A table of the names of fields that are of ASCII, of which this is one more owner.
+    pub(crate) fn shared(
+        alloc: Global,
+        fields: &Shared<Fields>,
+    ) -> Result<FieldTable, NoMemory>
+        requires { AreAscii (names_of (members fields.now)) }
+        ensures { IfOk result (λ t. t ≡ names_of (members fields.now)) }
     {
-        self.names.as_slice()
+        Ok(FieldTable {
+            own: Words::new(alloc),
+            fields: Some(fields.share()?),
+            texts: None,
+        })
+    }
+
+    /// How many names there are.
+    pub fn len(&self) -> usize
+        ensures { result ≡ length self.now }
+    {
+        match &self.fields {
+            Some(fields) => count_of(fields.as_slice()),
+            None => self.own.len(),
+        }
+    }
+
+    /// The name at a place.
+    pub fn name(&self, i: usize) -> &[u8]
+        requires { i < length self.now }
+        ensures { result.now ≡ slice_index_or self.now i [] }
+    {
+        match &self.fields {
+            Some(fields) => name_at(fields.as_slice(), i),
+            None => self.own.as_slice()[i].as_slice(),
+        }
     }
 
     /// The string of the name at a place.
@@ -58,6 +144,24 @@ impl FieldTable {
         requires { i < length self.now }
         ensures { result.now ≡ text_of (slice_index_or self.now i []) }
     {
-        self.texts[i].as_str()
+        match &self.texts {
+            Some(texts) => texts.as_slice()[i].as_str(),
+            None => as_text(self.name(i)),
+        }
     }
+}
+
+/// How many names fields have.
+fn count_of(fields: &[Field]) -> usize
+    ensures { result ≡ length (names_of (members fields.now)) }
+{
+    fields.len()
+}
+
+/// The name of a field.
+fn name_at(fields: &[Field], i: usize) -> &[u8]
+    requires { i < length (names_of (members fields.now)) }
+    ensures { result.now ≡ slice_index_or (names_of (members fields.now)) i [] }
+{
+    fields[i].name.as_slice()
 }

@@ -15,6 +15,7 @@ mod laws;
 mod messages;
 mod naming;
 mod ops;
+mod raise_table;
 mod raises;
 mod scalars;
 mod shape;

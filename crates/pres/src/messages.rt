@@ -10,10 +10,10 @@ ghost use Rattle.pres.specs.Made.{made_request, made_answer, made_raised, made_r
 ghost use Rattle.pres.specs.Offers.{exception, request_of, answer_of, reply_of, raised, offer, offer_at, is_cdr, is_xdr, gets_null, null_operation};
 
 use crate::draft::Draft;
-use crate::naming::copy_name;
 use crate::{BindErr, Op, Ops, Shape};
 use aoi::{Fields, Interface, Operation, Raise, Raises, Ty};
 use kit_base::{Name, NoMemory};
+use kit_shared::Shared;
 use mint::kind::Kind;
 use mint::node::{Arms, Node, NodeIds, Tag};
 use mint::table::NodeId;
@@ -59,13 +59,13 @@ pub(crate) fn null_operation(alloc: Global) -> Result<Operation, NoMemory>
     let mut name = Name::new(alloc);
     name.append(b"0")?;
     Ok(Operation {
-        name,
+        name: Shared::new(alloc, name)?,
         proc_no: 0,
         slot: 0,
-        ins: Fields::new(alloc),
-        outs: Fields::new(alloc),
-        result: Ty::Void,
-        raises: Raises::new(alloc),
+        ins: Shared::new(alloc, Fields::new(alloc))?,
+        outs: Shared::new(alloc, Fields::new(alloc))?,
+        result: Shared::new(alloc, Ty::Void)?,
+        raises: Shared::new(alloc, Raises::new(alloc))?,
         oneway: false,
     })
 }
@@ -102,7 +102,7 @@ impl Draft {
         ensures cause { IfErr result
             (λ e. Overflows (drawn self.old ++ made_answer (known self.old) (plain_operation op.now)) e) }
     {
-        let id = self.draw(alloc, &op.result)?;
+        let id = self.draw(alloc, op.result.get())?;
         let outs = self.draw_fields(alloc, op.outs.as_slice())?;
         let mut ids = NodeIds::new(alloc);
         ids.push(id)?;
@@ -130,7 +130,7 @@ impl Draft {
         let mut arms = Arms::new(alloc);
         arms.push((0, answer))?;
         for (k, raise) in raises.iter().enumerate() {
-            let id = self.draw_struct(alloc, raise.members.as_slice())?;
+            let id = self.draw_exception(alloc, &raise.members)?;
             arms.push((arm_number(k), id))?;
         }
         Ok(arms)
@@ -169,7 +169,7 @@ impl Draft {
             (drawn self.old ++ (made_request (known self.old) (plain_operation op.now)
             ++ made_reply (known self.old) (plain_operation op.now))) e) }
     {
-        let name = copy_name(alloc, &op.name)?;
+        let name = op.name.share()?;
         let request = self.draw_request(alloc, op)?;
         let reply = self.draw_reply(alloc, op)?;
         let has_reply = is_cdr(back) || !op.oneway;

@@ -6,10 +6,12 @@ ghost use Rattle.aoi.specs.Sound.{are_distinct, names_of};
 ghost use Rattle.pres.specs.Faces.{item, sign_of};
 ghost use Rattle.pres.specs.Named.{IsTagShape};
 
+use crate::fields::are_plain;
 use crate::sorting::labels_of;
 use crate::{FieldTable, ItemTable, Shape};
-use aoi::{Field, Items};
+use aoi::{Field, Fields, Items};
 use kit_base::{Name, NoMemory, Words};
+use kit_shared::Shared;
 use mint::node::Tag;
 use std::alloc::Global;
 
@@ -39,6 +41,16 @@ pub(crate) fn field_names(alloc: Global, fields: &[Field]) -> Result<FieldTable,
 {
     let words = field_words(alloc, fields)?;
     FieldTable::new(alloc, words)
+}
+
+/// The names of an exception's members, which are copied where one is not of ASCII alone.
+pub(crate) fn member_names(alloc: Global, fields: &Shared<Fields>) -> Result<FieldTable, NoMemory>
+    ensures { IfOk result (λ ws. ws ≡ names_of (members fields.now)) }
+{
+    if are_plain(fields.as_slice()) {
+        return FieldTable::shared(alloc, fields);
+    }
+    field_names(alloc, fields.as_slice())
 }
 
 /// A copy of the items of an enum.

@@ -1,76 +1,37 @@
 //! What finds the exceptions of operations by their names.
 
-ghost use Rattle.std.specs.Prelude.{◌≡◌, ℕ, List, [], ◌∷◌, None, Some, map, IfOk, OnOk, if◌then◌else◌};
-ghost use Rattle.std.specs.BTreeMap.{IsEmpty, get_by_text};
-ghost use Rattle.std.specs.Str.{bytes_eq};
+ghost use Rattle.std.specs.Prelude.{◌≡◌, [], ◌∷◌, None, Some, map, IfOk, OnOk, if◌then◌else◌};
 ghost use Rattle.aoi.specs.Plain.{PlainOperation, plain, plain_raise, plain_operation, plain_interface};
 ghost use Rattle.pres.specs.Offers.{gets_null};
-ghost use Rattle.pres.specs.Raises.{FindEach, FindMore, FindsRaises, sources, sources_of};
-ghost use Rattle.pres.specs.Tables.{text_of};
+ghost use Rattle.pres.specs.Raises.{FindEach, FindMore, FindsRaises, names_in, sources, sources_of};
 
 use crate::messages::gets_null;
-use crate::texts::text_of;
+use crate::raise_table::RaiseTable;
 use aoi::{Interface, Operation, Raise, Unit};
 use kit_base::NoMemory;
+use kit_shared::SharedNames;
 use std::alloc::Global;
-use std::collections::BTreeMap;
 use wire_def::Back;
-
-/// The exceptions of an operation by their names, each with its number from 1.
-pub(crate) type RaiseTable = BTreeMap<String, u32>;
 
 /// The exceptions of operations by their names: one table for each operation.
 pub(crate) type RaiseTables = Vec<RaiseTable>;
 
-/// Gives the name of an exception its number.
-fn put_raise(
-    alloc: Global,
-    table: &mut RaiseTable,
-    name: &[u8],
-    number: u32,
-) -> Result<(), NoMemory>
-    ensures { OnOk result ((s : List ℕ) → get_by_text table.new s
-        ≡ (if bytes_eq (text_of name.now) s then Some number else get_by_text table.old s)) }
+/// The names of exceptions.
+fn names_of(alloc: Global, raises: &[Raise]) -> Result<SharedNames, NoMemory>
+    ensures { IfOk result (λ names. names ≡ names_in (map plain_raise raises.now)) }
 {
-    table.insert(text_of(alloc, name)?, number)?;
-    Ok(())
-}
-
-/// Gives each name the number of its first exception, from the last to the first.
-fn put_raises(alloc: Global, table: &mut RaiseTable, raises: &[Raise]) -> Result<(), NoMemory>
-    requires { IsEmpty table.old }
-    ensures { OnOk result (FindsRaises (map plain_raise raises.now) table.new) }
-{
-    // More exceptions than numbers are more than memory holds.
-    let Ok(count) = u32::try_from(raises.len()) else {
-        return Err(NoMemory);
-    };
-    let mut number = count;
-    while number > 0 {
-        let name = raises[number as usize - 1].name.as_slice();
-        put_raise(alloc, table, name, number)?;
-        number -= 1;
+    let mut names = SharedNames::new(alloc);
+    for raise in raises {
+        names.push(raise.name.share()?)?;
     }
-    Ok(())
+    Ok(names)
 }
 
 /// The table of exceptions.
 fn raise_table(alloc: Global, raises: &[Raise]) -> Result<RaiseTable, NoMemory>
     ensures { IfOk result (λ table. FindsRaises (map plain_raise raises.now) table) }
 {
-    let mut table = BTreeMap::new(alloc);
-    put_raises(alloc, &mut table, raises)?;
-    Ok(table)
-}
-
-/// The number of a name.
-pub(crate) fn number_in(table: &RaiseTable, text: &str) -> Option<u32>
-    ensures { result ≡ get_by_text table.now text.now }
-{
-    match table.get(text) {
-        Some(number) => Some(*number),
-        None => None,
-    }
+    RaiseTable::new(alloc, names_of(alloc, raises)?)
 }
 
 /// Adds the tables of operations.
@@ -99,7 +60,7 @@ fn put_gotten(
         tables.old.items tables.new.items) }
 {
     if gets_null(back, interface) {
-        tables.push(BTreeMap::new(alloc))?;
+        tables.push(RaiseTable::new(alloc, SharedNames::new(alloc))?)?;
     }
     Ok(())
 }

@@ -4,4 +4,4 @@ use Rattle.pres.proofs.fields.texts_of.Given as goal
 
 -- the strings so far, and those of the rest, are all
 abbrev pub invariant-loop-name : goal.invariant-loop-name
-invariant-loop-name l = map string_bytes l.texts.items ++ texts_of (drop l.name-index l.names) ≡ texts_of l.names
+invariant-loop-name l = map string_bytes l.texts ++ texts_of (drop l.name-index l.names) ≡ texts_of l.names

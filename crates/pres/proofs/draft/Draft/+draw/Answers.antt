@@ -32,25 +32,25 @@ draw_fields-loop-field-preserved t c =
       left = (field_left _ fields i f c.loop-field-test.true c.field-item.is inv.left).1;
     }
 
-pub draw_struct-draw_fields-requires : goal.draw_struct-draw_fields-requires
-draw_struct-draw_fields-requires t c = (search (rules, the_lemmas), (and_parts _ _ c.requires).1)
+pub draw_group-draw_fields-requires : goal.draw_group-draw_fields-requires
+draw_group-draw_fields-requires t c = (search (rules, the_lemmas), (and_parts _ _ c.requires.drawable).1)
 
-pub draw_struct-push-requires-clause-named : goal.draw_struct-push-requires-clause-named
-draw_struct-push-requires-clause-named t c = record {
-  each = ap length c.in_ok-names.ensures ∙ names_each _ _ _ _ c.in_ok-ids.ensures.ids.are;
-  distinct = rw c.in_ok-names.ensures ((and_parts _ _ c.requires).0);
+pub draw_group-push-requires-clause-named : goal.draw_group-push-requires-clause-named
+draw_group-push-requires-clause-named t c = record {
+  each = ap length c.requires.names ∙ names_each _ _ _ _ c.in_ok-ids.ensures.ids.are;
+  distinct = rw c.requires.names ((and_parts _ _ c.requires.drawable).0);
 }
 
-pub draw_struct-returns-clause-grows : goal.draw_struct-returns-clause-grows
-draw_struct-returns-clause-grows t c =
+pub draw_group-returns-clause-grows : goal.draw_group-returns-clause-grows
+draw_group-returns-clause-grows t c =
     let fs = known c.args.self.now in
-    let same = members_by c.draw_fields.new.self fs _ _ (aoi.members c.args.fields.now) c.in_ok-ids.ensures.ids c.in_ok-names.ensures in
+    let same = members_by c.draw_fields.new.self fs _ _ (aoi.members c.args.fields.now) c.in_ok-ids.ensures.ids c.requires.names in
     on_ok _ _ _ (node_after _ _ _ _ _ _ same c.in_ok-ids.ensures.grows) c.push.ensures.grows
 
-pub draw_struct-returns-clause-id : goal.draw_struct-returns-clause-id
-draw_struct-returns-clause-id t c =
+pub draw_group-returns-clause-id : goal.draw_group-returns-clause-id
+draw_group-returns-clause-id t c =
     let fs = known c.args.self.now in
-    let same = members_by c.draw_fields.new.self fs _ _ (aoi.members c.args.fields.now) c.in_ok-ids.ensures.ids c.in_ok-names.ensures in
+    let same = members_by c.draw_fields.new.self fs _ _ (aoi.members c.args.fields.now) c.in_ok-ids.ensures.ids c.requires.names in
     if_ok _ _ _ (λ id. drawn_as _ id _ _ same) c.push.ensures.id
 
 -- ---- arms

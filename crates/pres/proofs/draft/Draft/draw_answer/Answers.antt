@@ -12,17 +12,17 @@ answer_is : (c : goal.After-drop-outs-inside-2)
     → values (parts_at (drawn c.draw_fields.new.self) [] c.append.new.self)
     ≡ answer_of (known c.args.self.now) (plain_operation c.args.op.now)
 answer_is c =
-    let g = c.in_ok-id.ensures.grows in
+    let g = rw c.get.ensures at c.in_ok-id.ensures.grows in
     let h = rw (c.as_slice.ensures, g.types) at c.in_ok-outs.ensures.grows in
     let ds = rw (c.as_slice.ensures, g.types) at c.in_ok-outs.ensures.ids in
-    answer_by _ _ _ (plain_operation c.args.op.now) c.in_ok-id.id c.in_ok-outs.outs _ (known c.args.self.now) h c.in_ok-id.ensures.id ds
+    answer_by _ _ _ (plain_operation c.args.op.now) c.in_ok-id.id c.in_ok-outs.outs _ (known c.args.self.now) h (rw c.get.ensures at c.in_ok-id.ensures.id) ds
     (c.in_ok-append.ensures.ok ∙ rw (c.in_ok-push.ensures.ok, c.as_slice-2.ensures, c.new-ids.ensures) refl)
 
 both_grow : (c : goal.After-drop-outs-inside-2)
     → Grows c.args.self.now c.draw_fields.new.self (made (known c.args.self.now) (plain_operation c.args.op.now).result
     ++ made_inside (known c.args.self.now) (plain_operation c.args.op.now).outs)
 both_grow c =
-    let g = c.in_ok-id.ensures.grows in
+    let g = rw c.get.ensures at c.in_ok-id.ensures.grows in
     grows_twice _ _ _ _ _ g (rw (c.as_slice.ensures, g.types) at c.in_ok-outs.ensures.grows)
 
 pub returns-clause-grows : goal.returns-clause-grows

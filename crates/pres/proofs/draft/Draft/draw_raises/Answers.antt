@@ -18,8 +18,8 @@ loop-k-preserved c =
     let inv = c.loop-k.invariant in
     let lt = c.loop-k-test.true in
     let is = c.index-raises-k.is in
-    let g = rw c.as_slice.ensures at c.in_ok-id.ensures.grows in
-    let d = rw (c.as_slice.ensures, inv.same) at c.in_ok-id.ensures.id in
+    let g = c.in_ok-id.ensures.grows in
+    let d = rw inv.same at c.in_ok-id.ensures.id in
     let fits : FitsSigned w128 c.arm_number.result = search rules in
     record {
       same = g.types ∙ inv.same;

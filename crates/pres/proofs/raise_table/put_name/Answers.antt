@@ -1,7 +1,7 @@
 use Rattle.std.proofs.Common.{string_bytes, refl}
 use Rattle.std.proofs.lemmas.Map.Text.{btree_map_updates_text}
 use Rattle.pres.proofs.Tabled.{number_put}
-use Rattle.pres.proofs.raises.put_raise.Goals as goal
+use Rattle.pres.proofs.raise_table.put_name.Goals as goal
 
 pub returns : goal.returns
 returns c =
