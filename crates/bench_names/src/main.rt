@@ -5,7 +5,8 @@
 
 use anyhow::{Result, bail};
 use demux::{Demux, WordName};
-use kit_base::{Name, NoMemory, Words};
+use kit_base::{Name, NoMemory};
+use kit_shared::{Shared, SharedNames};
 use std::alloc::Global;
 use std::collections::BTreeMap;
 use std::env;
@@ -63,15 +64,15 @@ fn name_of(alloc: Global, shape: Shape, number: u32, octets: u32) -> Result<Name
     Ok(name)
 }
 
-fn names_of(alloc: Global, shape: Shape, count: u32, octets: u32) -> Result<Words, NoMemory> {
-    let mut names = Words::new(alloc);
+fn names_of(alloc: Global, shape: Shape, count: u32, octets: u32) -> Result<SharedNames, NoMemory> {
+    let mut names = SharedNames::new(alloc);
     for number in 0..count {
-        names.push(name_of(alloc, shape, number, octets)?)?;
+        names.push(Shared::new(alloc, name_of(alloc, shape, number, octets)?)?)?;
     }
     Ok(names)
 }
 
-fn by_tree(alloc: Global, names: &Words, sought: &[u8], searches: u32) -> Result<u64, NoMemory> {
+fn by_tree(alloc: Global, names: SharedNames, sought: &[u8], searches: u32) -> Result<u64, NoMemory> {
     if names.len() > 4_294_967_295 {
         return Err(NoMemory);
     }
@@ -85,7 +86,7 @@ fn by_tree(alloc: Global, names: &Words, sought: &[u8], searches: u32) -> Result
     Ok(sum)
 }
 
-fn by_map(alloc: Global, names: &Words, sought: &[u8], searches: u32) -> Result<u64, NoMemory> {
+fn by_map(alloc: Global, names: &SharedNames, sought: &[u8], searches: u32) -> Result<u64, NoMemory> {
     let mut map = BTreeMap::new(alloc);
     for (place, name) in names.as_slice().iter().enumerate() {
         map.insert(Vec::from_slice(alloc, name.as_slice())?, place as u64)?;
@@ -99,7 +100,7 @@ fn by_map(alloc: Global, names: &Words, sought: &[u8], searches: u32) -> Result<
     Ok(sum)
 }
 
-fn by_search(names: &Words, sought: &[u8], searches: u32) -> u64 {
+fn by_search(names: &SharedNames, sought: &[u8], searches: u32) -> u64 {
     let mut sum = 0u64;
     for _ in 0..searches {
         for (place, name) in names.as_slice().iter().enumerate() {
@@ -128,7 +129,7 @@ fn run(alloc: Global, task: &Task) -> Result<u64, NoMemory> {
     let names = names_of(alloc, task.shape, task.count, task.octets)?;
     let sought = name_of(alloc, task.shape, task.place, task.octets)?;
     match task.by {
-        By::Tree => by_tree(alloc, &names, sought.as_slice(), task.searches),
+        By::Tree => by_tree(alloc, names, sought.as_slice(), task.searches),
         By::Map => by_map(alloc, &names, sought.as_slice(), task.searches),
         By::Search => Ok(by_search(&names, sought.as_slice(), task.searches)),
     }

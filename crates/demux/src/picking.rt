@@ -10,14 +10,15 @@ ghost use Rattle.std.specs.Str.{bytes_eq};
 
 use crate::tree::{Node, empty_tree, put_place, sought};
 use crate::word_name::WordName;
-use kit_base::{Name, NoMemory, Words};
+use kit_base::{Name, NoMemory};
+use kit_shared::{Shared, SharedNames};
 use std::alloc::Global;
 use std::marker::Model;
 
 /// Names, each at its place from 0, among which the first that is equal to a given one is found.
 #[derive(Drop)]
 pub struct Demux {
-    names: Words,
+    names: SharedNames,
     nodes: Vec<Node>,
 }
 
@@ -32,19 +33,8 @@ impl Model for Demux {
     ghost invariant = { λ d. (length d.names < 2 ^ 32) × FindsPlaces d.names d.nodes.items };
 }
 
-/// Copies of names.
-fn copied(alloc: Global, names: &Words) -> Result<Words, NoMemory>
-    ensures { IfOk result (λ copies. copies ≡ names.now) }
-{
-    let mut copies = Words::new(alloc);
-    for name in names.as_slice() {
-        copies.push(Name::from_slice(alloc, name.as_slice())?)?;
-    }
-    Ok(copies)
-}
-
 /// The names in the order of their lengths and words.
-fn in_order<'a>(alloc: Global, names: &'a [Name]) -> Result<Vec<(usize, &'a [u8])>, NoMemory> {
+fn in_order<'a>(alloc: Global, names: &'a [Shared<Name>]) -> Result<Vec<(usize, &'a [u8])>, NoMemory> {
     let mut sorted = Vec::new(alloc);
     for name in names {
         sorted.push((name.len(), name.as_slice()))?;
@@ -54,7 +44,7 @@ fn in_order<'a>(alloc: Global, names: &'a [Name]) -> Result<Vec<(usize, &'a [u8]
 }
 
 /// A tree that has the nodes of names, and finds none of them yet. Each list of words grows at its end alone.
-fn nodes_of(alloc: Global, names: &[Name]) -> Result<Vec<Node>, NoMemory>
+fn nodes_of(alloc: Global, names: &[Shared<Name>]) -> Result<Vec<Node>, NoMemory>
     ensures tree { IfOk result (λ t. IsTree t.items) }
     ensures empty { IfOk result (λ t. (s : List ℕ) → AreOctets s → place_in t.items s ≡ None) }
 {
@@ -68,7 +58,7 @@ fn nodes_of(alloc: Global, names: &[Name]) -> Result<Vec<Node>, NoMemory>
 
 /// Keeps the places of the names from the last to the first, so that of equal names the place of
 /// the first stays.
-fn put_places(alloc: Global, nodes: &mut Vec<Node>, names: &[Name]) -> Result<(), NoMemory>
+fn put_places(alloc: Global, nodes: &mut Vec<Node>, names: &[Shared<Name>]) -> Result<(), NoMemory>
     requires few { length names.now < 2 ^ 32 }
     requires tree { IsTree nodes.old.items }
     requires empty { (s : List ℕ) → AreOctets s → place_in nodes.old.items s ≡ None }
@@ -83,17 +73,14 @@ fn put_places(alloc: Global, nodes: &mut Vec<Node>, names: &[Name]) -> Result<()
 }
 
 impl Demux {
-    /// Copies of names, and what finds them.
-    pub fn new(alloc: Global, names: &Words) -> Result<Demux, NoMemory>
-        requires { length names.now < 2 ^ 32 }
-        ensures { IfOk result (λ d. d ≡ names.now) }
+    /// Names, and what finds them.
+    pub fn new(alloc: Global, names: SharedNames) -> Result<Demux, NoMemory>
+        requires { length names < 2 ^ 32 }
+        ensures { IfOk result (λ d. d ≡ names) }
     {
         let mut nodes = nodes_of(alloc, names.as_slice())?;
         put_places(alloc, &mut nodes, names.as_slice())?;
-        Ok(Demux {
-            names: copied(alloc, names)?,
-            nodes,
-        })
+        Ok(Demux { names, nodes })
     }
 
     /// The place of the first name that is equal to this one, counted from 0. It takes no memory,
