@@ -15,7 +15,7 @@ ghost use Rattle.head_arms.specs.Raised.{exceptions};
 use crate::putting::{MOVE_SEND_ONCE, reply_id, request_bits};
 use crate::reply::RETURN;
 use crate::routines::{Routine, routine_of};
-use cast_stub::{HeadField, Put, Puts, SendCode, SendOp, SendOps, SendSubs};
+use cast_stub::{Constant, HeadField, Put, Puts, SendCode, SendOp, SendOps, SendSubs};
 use head_arms::exceptions_of;
 use kit_base::{NoMemory, Octets};
 use pres::Bound;
@@ -37,7 +37,7 @@ fn octets_of(alloc: Global, numbers: &[u32]) -> Result<Octets, NoMemory>
 fn constant(alloc: Global, off: u32, numbers: &[u32]) -> Result<Put, NoMemory>
     ensures { IfOk result (λ p. p ≡ put.Const off (words numbers.now)) }
 {
-    Ok(Put::Const(off, octets_of(alloc, numbers)?))
+    Ok(Put::Const(off, Constant::of(alloc, octets_of(alloc, numbers)?)))
 }
 
 /// A port of the head at an offset of a chunk.

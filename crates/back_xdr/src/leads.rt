@@ -10,7 +10,7 @@ ghost use Rattle.back_xdr.specs.Procedures.{procedure_of};
 ghost use Rattle.head_arms.specs.Raised.{exceptions};
 
 use crate::procedures::procedure_of;
-use cast_stub::{HeadField, Put, Puts, SendCode, SendOp, SendOps, SendSubs};
+use cast_stub::{Constant, HeadField, Put, Puts, SendCode, SendOp, SendOps, SendSubs};
 use head_arms::exceptions_of;
 use kit_base::{NoMemory, Octets};
 use pres::Bound;
@@ -37,7 +37,7 @@ fn chunk_of(alloc: Global, numbers: &[u32]) -> Result<SendCode, NoMemory>
     let size = 4 + 4 * numbers.len() as u32;
     let mut puts = Puts::new(alloc);
     puts.push(Put::Head(0, HeadField::Id, 4, Order::Big))?;
-    puts.push(Put::Const(4, octets_of(alloc, numbers)?))?;
+    puts.push(Put::Const(4, Constant::of(alloc, octets_of(alloc, numbers)?)))?;
     let mut ops = SendOps::new(alloc);
     ops.push(SendOp::Chunk(size, puts))?;
     Ok(SendCode {

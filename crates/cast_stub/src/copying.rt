@@ -61,7 +61,7 @@ fn put_after(alloc: Global, prefix: &Path, put: &Put) -> Result<Put, NoMemory>
                 *factor,
             ))
         }
-        Put::Const(off, octets) => Ok(Put::Const(*off, copy_octets(alloc, octets)?)),
+        Put::Const(off, octets) => Ok(Put::Const(*off, octets.copy(alloc)?)),
         Put::Head(off, field, width, order) => Ok(Put::Head(*off, *field, *width, *order)),
     }
 }

@@ -4,6 +4,7 @@
 //! room is ensured are three folds over that list, in the definitions of this crate.
 #![tactic(auto)]
 
+mod constant;
 pub mod copies;
 pub mod copying;
 mod laws;
@@ -14,6 +15,7 @@ pub mod recv_copying;
 mod recv_laws;
 mod send;
 
+pub use constant::Constant;
 pub use laws::{
     calls_run_in_turn, code_after_code, code_for_a_part, code_without_calls_runs_none,
     costs_add_up, ensures_run_no_call, more_room_never_harms, steps_write_in_turn,

@@ -3,7 +3,8 @@
 ghost use Rattle.std.specs.Prelude.{◌≡◌};
 ghost use Rattle.cast_stub.specs.Puts.{head_number};
 
-use kit_base::{Listed, Octets};
+use crate::Constant;
+use kit_base::Listed;
 use wire_def::{Head, Order};
 
 /// The numbers of fields, through groups; without one, the current value itself.
@@ -51,7 +52,7 @@ pub enum Put {
     /// and factor.
     Short(u32, Path, u32, u32, u32),
     /// These octets: offset and octets.
-    Const(u32, Octets),
+    Const(u32, Constant),
     /// A number of the head: offset, which, width and order.
     Head(u32, HeadField, u32, Order),
 }

@@ -6,8 +6,7 @@ ghost use Rattle.chunker.specs.Chunked.{moved, zeros, with_const, consts_joined}
 ghost use Rattle.chunker.specs.Joins.{Joins};
 
 use cast_stub::copies::copy_path;
-use cast_stub::copying::copy_octets;
-use cast_stub::{Put, Puts};
+use cast_stub::{Constant, Put, Puts};
 use kit_base::{NoMemory, Octets};
 use std::alloc::Global;
 
@@ -54,7 +53,7 @@ fn move_put(alloc: Global, by: u32, put: &Put) -> Result<Put, NoMemory>
                 *factor,
             ))
         }
-        Put::Const(off, octets) => Ok(Put::Const(further(by, *off)?, copy_octets(alloc, octets)?)),
+        Put::Const(off, octets) => Ok(Put::Const(further(by, *off)?, octets.copy(alloc)?)),
         Put::Head(off, field, width, order) => {
             Ok(Put::Head(further(by, *off)?, *field, *width, *order))
         }
@@ -79,17 +78,17 @@ pub(crate) fn put_zeros(alloc: Global, at: u32, many: u32, out: &mut Puts) -> Re
     for _ in 0..many {
         octets.push(0)?;
     }
-    put_const(alloc, at, &octets, out)
+    put_const(alloc, at, &Constant::of(alloc, octets), out)
 }
 
 /// Puts a constant after the puts of `out`, if it has octets.
-fn put_const(alloc: Global, at: u32, octets: &Octets, out: &mut Puts) -> Result<(), NoMemory>
+fn put_const(alloc: Global, at: u32, octets: &Constant, out: &mut Puts) -> Result<(), NoMemory>
     ensures { OnOk result ((r : List Put) → out.old ++ with_const at octets.now r ≡ out.new ++ r) }
 {
     if octets.len() == 0 {
         return Ok(());
     }
-    out.push(Put::Const(at, copy_octets(alloc, octets)?))?;
+    out.push(Put::Const(at, octets.copy(alloc)?))?;
     Ok(())
 }
 
@@ -101,7 +100,7 @@ pub(crate) struct Joining {
     /// The place of the constant.
     pub at: u32,
     /// Its octets, none where there is no constant.
-    pub octets: Octets,
+    pub octets: Constant,
 }
 
 /// Takes one more put.
@@ -110,12 +109,12 @@ fn join_put(alloc: Global, put: &Put, joining: &mut Joining) -> Result<(), NoMem
 {
     match put {
         Put::Const(off, octets) => {
-            if *off as u128 == joining.at as u128 + joining.octets.len() as u128 {
-                return joining.octets.append(octets.as_slice());
+            if *off as u128 == joining.at as u128 + joining.octets.len() {
+                return joining.octets.append_all(octets);
             }
             put_const(alloc, joining.at, &joining.octets, &mut joining.out)?;
             joining.at = *off;
-            joining.octets = copy_octets(alloc, octets)?;
+            joining.octets = octets.copy(alloc)?;
             Ok(())
         }
         Put::Num(_, _, _, _)
@@ -127,7 +126,7 @@ fn join_put(alloc: Global, put: &Put, joining: &mut Joining) -> Result<(), NoMem
             put_const(alloc, joining.at, &joining.octets, &mut joining.out)?;
             joining.out.push(move_put(alloc, 0, put)?)?;
             joining.at = 0;
-            joining.octets = Octets::new(alloc);
+            joining.octets = Constant::of(alloc, Octets::new(alloc));
             Ok(())
         }
     }
@@ -140,7 +139,7 @@ pub(crate) fn join_puts(alloc: Global, puts: &Puts) -> Result<Puts, NoMemory>
     let mut joining = Joining {
         out: Puts::new(alloc),
         at: 0,
-        octets: Octets::new(alloc),
+        octets: Constant::of(alloc, Octets::new(alloc)),
     };
     for put in puts.as_slice() {
         join_put(alloc, put, &mut joining)?;

@@ -128,6 +128,21 @@ impl SendBuf {
         self.count_store();
     }
 
+    /// Stores octets in three pieces, one behind the other, at an offset from the cursor, in the space that is ensured.
+    /// It counts as one store.
+    pub fn put_pieces(&mut self, off: usize, front: &[u8], piece: &[u8], rest: &[u8])
+        requires { off + length (front.now ++ (piece.now ++ rest.now)) ≤ length self.old.front }
+        ensures done { self.new.done ≡ self.old.done }
+        ensures front { self.new.front ≡ written self.old.front off (front.now ++ (piece.now ++ rest.now)) }
+        ensures tally { self.new.tally ≡ stored self.old.tally }
+        ensures spent { self.new.spent ≡ stored self.old.spent }
+    {
+        self.store(off, front);
+        self.store(off + front.len(), piece);
+        self.store(off + front.len() + piece.len(), rest);
+        self.count_store();
+    }
+
     /// Moves the first n octets of the space to those that are done.
     #[inline(always)]
     pub fn advance(&mut self, n: usize)

@@ -13,7 +13,7 @@ use crate::ops::{add_chunk, add_pair};
 use crate::units::{item_octets, long_octets, number_at, rest_of};
 use cast_stub::copying::add;
 use cast_stub::layouts::{order_of, width_of};
-use cast_stub::{Path, Put, Puts, SendOp, SendOps};
+use cast_stub::{Constant, Path, Put, Puts, SendOp, SendOps};
 use kit_base::{NoMemory, Octets};
 use mint::kind::{Count, Kind};
 use std::alloc::Global;
@@ -52,7 +52,7 @@ fn add_zeros(alloc: Global, at: u32, zeros: &[u8], puts: &mut Puts) -> Result<()
 {
     let mut octets = Octets::new(alloc);
     octets.append(zeros)?;
-    puts.push(Put::Const(at, octets))
+    puts.push(Put::Const(at, Constant::of(alloc, octets)))
 }
 
 /// Puts what fills an item of a Mach message up after its number.
@@ -72,7 +72,7 @@ fn add_item(alloc: Global, kind: Kind, put: Put, out: &mut SendOps) -> Result<()
     ensures { OnOk result (code_seen out.new ≡ append (code_seen out.old) (item_code (number kind) put)) }
 {
     let mut puts = Puts::new(alloc);
-    puts.push(Put::Const(0, item_octets(alloc, kind)?))?;
+    puts.push(Put::Const(0, Constant::of(alloc, item_octets(alloc, kind)?)))?;
     puts.push(put)?;
     add_fill(alloc, kind, &mut puts)?;
     add(out, SendOp::Chunk(4 + rest_of(kind), puts))
@@ -156,7 +156,7 @@ fn add_long(alloc: Global, kind: Kind, out: &mut SendOps) -> Result<(), NoMemory
 {
     let octets = long_octets(alloc, kind)?;
     let many = Put::Count(8, Path::new(alloc), units_in(kind), 0, 4, Order::Little);
-    add_pair(alloc, 12, Put::Const(0, octets), many, out)
+    add_pair(alloc, 12, Put::Const(0, Constant::of(alloc, octets)), many, out)
 }
 
 /// Puts the short descriptor of an array.
@@ -231,7 +231,7 @@ fn add_end(alloc: Global, out: &mut SendOps) -> Result<(), NoMemory>
 {
     let mut octets = Octets::new(alloc);
     octets.push(0)?;
-    add_chunk(alloc, 1, Put::Const(0, octets), out)
+    add_chunk(alloc, 1, Put::Const(0, Constant::of(alloc, octets)), out)
 }
 
 /// Puts what comes before the elements of a row over CDR.

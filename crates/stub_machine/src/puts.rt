@@ -12,8 +12,7 @@ ghost use Rattle.stub_machine.specs.Putting.{octets_in, Writes, OverAll};
 ghost use Rattle.stub_machine.specs.Run.{state_of, stored_times, Runs, Ends};
 
 use crate::parts::{flag_of, length_of, number_there, part, scaled, tag_of};
-use cast_stub::{HeadField, Path, Put, Puts, SendOp, SendOps};
-use kit_base::Octets;
+use cast_stub::{Constant, HeadField, Path, Put, Puts, SendOp, SendOps};
 use mint::value::{Value, Values};
 use raw_buf::SendBuf;
 use wire_def::{Head, Order};
@@ -221,11 +220,16 @@ fn put_head(buf: &mut SendBuf, off: u32, field: HeadField, width: u32, order: Or
 
 /// Stores octets that a code has.
 #[inline(never)]
-fn put_constant(off: u32, octets: &Octets, buf: &mut SendBuf)
+fn put_constant(off: u32, octets: &Constant, buf: &mut SendBuf)
     requires { off + length octets.now ≤ length buf.old.front }
     ensures { Writes buf.old buf.new off (Some octets.now) }
 {
-    buf.put_const(off as usize, octets.as_slice());
+    let (front, piece, rest) = octets.pieces();
+    if piece.is_empty() && rest.is_empty() {
+        buf.put_const(off as usize, front);
+    } else {
+        buf.put_pieces(off as usize, front, piece, rest);
+    }
 }
 
 /// Stores what a put says, of whichever kind.

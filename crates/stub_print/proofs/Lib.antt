@@ -4,6 +4,8 @@
 pub mod Numerals
 -- * Texts put one after the other
 pub mod Putting
+-- * Octets in pieces, in hexadecimal digits
+pub mod Hexed
 -- * What octets tell: lines of words, and in words numbers, paths, orders and octets
 pub mod Read
 -- * The text of code of either direction: what it is made of, and how an operation with bodies is put

@@ -5,8 +5,8 @@ ghost use Rattle.stub_print.specs.Putting.{IsPut};
 ghost use Rattle.stub_print.specs.SendText.{field_word, put_words, puts_text};
 ghost use Rattle.stub_print.specs.Words.{hex, line, numeral, order_word, path_word, spaced, words};
 
-use crate::words::{end_line, put_first, put_hex, put_number, put_order, put_path, put_word};
-use cast_stub::{HeadField, Path, Put, Puts};
+use crate::words::{end_line, put_first, put_hex, put_number, put_order, put_path, put_pieces, put_word};
+use cast_stub::{Constant, HeadField, Path, Put, Puts};
 use kit_base::{NoMemory, Octets};
 use wire_def::Order;
 
@@ -73,6 +73,17 @@ pub(crate) fn put_fixed(out: &mut Octets, off: u32, octets: &Octets) -> Result<(
 {
     put_offset(out, off, b"const")?;
     put_hex(out, octets.as_slice())?;
+    end_line(out)
+}
+
+/// Puts the line of a constant.
+fn put_constant(out: &mut Octets, off: u32, octets: &Constant) -> Result<(), NoMemory>
+    ensures { OnOk result
+        (IsPut out.old (line (codes "at") (numeral off ∷ codes "const" ∷ hex octets.now ∷ [])) out.new) }
+{
+    put_offset(out, off, b"const")?;
+    let (front, piece, rest) = octets.pieces();
+    put_pieces(out, front, piece, rest)?;
     end_line(out)
 }
 
@@ -144,7 +155,7 @@ fn put_put(out: &mut Octets, put: &Put) -> Result<(), NoMemory>
         Put::Short(off, path, name, size, factor) => {
             put_short(out, *off, path, *name, *size, *factor)
         }
-        Put::Const(off, octets) => put_fixed(out, *off, octets),
+        Put::Const(off, octets) => put_constant(out, *off, octets),
         Put::Head(off, field, width, order) => put_head(out, *off, *field, *width, *order),
     }
 }

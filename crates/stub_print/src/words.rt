@@ -99,6 +99,20 @@ pub(crate) fn put_hex(out: &mut Octets, octets: &[u8]) -> Result<(), NoMemory>
     put_hex_digits(out, octets)
 }
 
+/// Puts octets in three pieces in hexadecimal digits, one behind the other.
+pub(crate) fn put_pieces(
+    out: &mut Octets,
+    front: &[u8],
+    piece: &[u8],
+    rest: &[u8],
+) -> Result<(), NoMemory>
+    ensures { OnOk result (IsPut out.old (spaced (hex (front.now ++ (piece.now ++ rest.now)))) out.new) }
+{
+    put_hex(out, front)?;
+    put_hex_digits(out, piece)?;
+    put_hex_digits(out, rest)
+}
+
 fn put_hex_digits(out: &mut Octets, octets: &[u8]) -> Result<(), NoMemory>
     ensures { OnOk result (out.new ≡ out.old ++ hex octets.now) }
 {

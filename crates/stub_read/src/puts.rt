@@ -7,7 +7,7 @@ ghost use Rattle.stub_read.specs.Operations.{layout_at, scalar_at, count_put_at,
 use crate::StubErr;
 use crate::leads::{PutLead, put_lead};
 use crate::words::{after, begins, number, octets, order, past, path};
-use cast_stub::{HeadField, Path, Put, Puts};
+use cast_stub::{Constant, HeadField, Path, Put, Puts};
 use std::alloc::Global;
 use wire_def::Order;
 
@@ -92,7 +92,7 @@ fn stored(alloc: Global, off: u32, lead: PutLead, text: &[u8]) -> Result<(Put, &
         PutLead::Const => {
             let (octets, rest) = octets(alloc, text)?;
             let rest = past(rest, b"\n")?;
-            Ok((Put::Const(off, octets), rest))
+            Ok((Put::Const(off, Constant::of(alloc, octets)), rest))
         }
         PutLead::Head => {
             let (field, rest) = field(text)?;
