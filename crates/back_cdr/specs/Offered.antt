@@ -1,5 +1,5 @@
 -- The operations of interfaces by their names, and the exceptions of operations by their repository ids.
-use Rattle.std.specs.Prelude.{ℕ, ◌+◌, List, [], ◌∷◌, ◌++◌, map, length, Option, option_map}
+use Rattle.std.specs.Prelude.{◌≡◌, ℕ, ◌+◌, ◌<◌, ◌^◌, List, [], ◌∷◌, ◌++◌, map, length, Option, None, Some, option_map}
 use Rattle.std.specs.List.{position_from}
 use Rattle.std.specs.Str.{bytes_eq}
 use Rattle.aoi.specs.declared.interfaces.Raise.{Raise}
@@ -11,6 +11,11 @@ use Rattle.head_kit.specs.Calls.{operation_at}
 pub record Offered : Type 0 where
   pub first : ℕ
   pub names : List (List ℕ)
+
+-- names that are found one by one, or by a tree of these names
+abbrev pub IsListed : List (List ℕ) → Option Offered → Type 0
+IsListed names None = length names + 1 < 2 ^ 32
+IsListed names (Some t) = t ≡ record { first = 1; names = names }
 
 -- the names of operations
 abbrev pub names_of : List PlainOperation → List (List ℕ)

@@ -1,6 +1,6 @@
 //! The heads that are sent, as code.
 
-ghost use Rattle.std.specs.Prelude.{◌≡◌, ◌+◌, ◌<◌, ◌≤◌, ◌^◌, ◌∷◌, [], length, take, drop, IfOk};
+ghost use Rattle.std.specs.Prelude.{◌≡◌, ◌+◌, ◌<◌, ◌≤◌, ◌^◌, ◌∷◌, [], length, take, IfOk};
 ghost use Rattle.cast_stub.specs.Block.{chunk, op_seen, patch};
 ghost use Rattle.cast_stub.specs.declared.put.Put.TheVariants as put;
 ghost use Rattle.cast_stub.specs.declared.put.HeadField.TheVariants.{Id};
@@ -14,21 +14,22 @@ ghost use Rattle.back_cdr.specs.Targets as defs;
 use crate::bodies::has_body;
 use crate::printing::{answer, request, user};
 use crate::targets::{exception_of, names_are_short, operation_of, order_of};
-use cast_stub::{HeadField, Put, Puts, SendCode, SendOp, SendOps, SendSubs};
-use kit_base::{NoMemory, Octets};
+use cast_stub::{Constant, HeadField, Put, Puts, SendCode, SendOp, SendOps, SendSubs};
+use kit_base::NoMemory;
 use pres::Bound;
 use std::alloc::Global;
 use wire_def::{Back, Order};
 
 /// One chunk of octets.
 #[tactic(auto, using(crate::proofs::Coding::coding))]
-fn constant(alloc: Global, octets: &[u8]) -> Result<SendOp, NoMemory>
-    requires { length octets.now < 2 ^ 32 }
-    ensures { IfOk result (λ op. op_seen op ≡ chunk (length octets.now) (put.Const 0 octets.now ∷ [])) }
+fn constant(alloc: Global, octets: Constant) -> Result<SendOp, NoMemory>
+    requires { length octets < 2 ^ 32 }
+    ensures { IfOk result (λ op. op_seen op ≡ chunk (length octets) (put.Const 0 octets ∷ [])) }
 {
+    let size = octets.len() as u32;
     let mut puts = Puts::new(alloc);
-    puts.push(Put::Const(0, Octets::from_slice(alloc, octets)?))?;
-    Ok(SendOp::Chunk(octets.len() as u32, puts))
+    puts.push(Put::Const(0, octets))?;
+    Ok(SendOp::Chunk(size, puts))
 }
 
 /// One chunk of the request's id.
@@ -50,31 +51,28 @@ fn id_place(minor: u8) -> usize
 }
 
 /// The octets before the id.
-fn before_id(place: usize, octets: &[u8]) -> &[u8]
+fn before_id(alloc: Global, place: usize, octets: &Constant) -> Result<Constant, NoMemory>
     requires { place + 4 ≤ length octets.now }
-    ensures { result.now ≡ take place octets.now }
+    ensures { IfOk result (λ o. o ≡ take place octets.now) }
 {
-    &octets[..place]
-}
-
-/// The octets after the id.
-fn after_id(place: usize, octets: &[u8]) -> &[u8]
-    requires { place + 4 ≤ length octets.now }
-    ensures { result.now ≡ drop (place + 4) octets.now }
-{
-    &octets[place + 4..]
+    Ok(Constant::of(alloc, octets.first(alloc, place)?))
 }
 
 /// Chunks of these octets, with the request's id from this place on.
-fn chunks_of(alloc: Global, order: Order, place: usize, octets: &[u8]) -> Result<SendCode, NoMemory>
+fn chunks_of(
+    alloc: Global,
+    order: Order,
+    place: usize,
+    octets: &Constant,
+) -> Result<SendCode, NoMemory>
     requires many { place + 4 ≤ length octets.now }
     requires few { length octets.now < 2 ^ 32 }
     ensures { IfOk result (λ code. IsCoded order place octets.now code) }
 {
     let mut ops = SendOps::new(alloc);
-    ops.push(constant(alloc, before_id(place, octets))?)?;
+    ops.push(constant(alloc, before_id(alloc, place, octets)?)?)?;
     ops.push(id(alloc, order)?)?;
-    ops.push(constant(alloc, after_id(place, octets))?)?;
+    ops.push(constant(alloc, octets.after(alloc, place + 4)?)?)?;
     Ok(SendCode {
         ops,
         subs: SendSubs::new(alloc),
@@ -82,7 +80,12 @@ fn chunks_of(alloc: Global, order: Order, place: usize, octets: &[u8]) -> Result
 }
 
 /// Code that is these octets, with the request's id from this place on.
-fn code_of(alloc: Global, order: Order, place: usize, octets: &[u8]) -> Result<SendCode, NoMemory>
+fn code_of(
+    alloc: Global,
+    order: Order,
+    place: usize,
+    octets: &Constant,
+) -> Result<SendCode, NoMemory>
     requires many { place + 4 ≤ length octets.now }
     requires few { length octets.now < 2 ^ 32 }
     ensures means { IfOk result (λ code. Leads (λ h. with_id order place octets.now h.id) code) }
@@ -105,7 +108,7 @@ fn call_octets(
     bound: &Bound,
     op: u32,
     minor: u8,
-) -> Result<Octets, NoMemory>
+) -> Result<Constant, NoMemory>
     requires cdr { IsCdr bound.now.back }
     requires op { op < length bound.now.ops }
     ensures { IfOk result (λ o. o
@@ -119,7 +122,7 @@ fn call_octets(
         has_body(bound, op),
         order,
         !called.oneway,
-        i.name.as_slice(),
+        &i.name,
         called.name.as_slice(),
     )
 }
@@ -132,7 +135,7 @@ fn reply_octets(
     op: u32,
     arm: u32,
     minor: u8,
-) -> Result<Octets, NoMemory>
+) -> Result<Constant, NoMemory>
     requires cdr { IsCdr bound.now.back }
     requires op { op < length bound.now.ops }
     requires arm { arm ≤ length (target_of bound.now op).ids }
@@ -159,7 +162,7 @@ pub fn lead_call(alloc: Global, bound: &Bound, op: u32, minor: u8) -> Result<Sen
     names_are_short(bound);
     let order = sent_order(bound);
     let octets = call_octets(alloc, order, bound, op, minor)?;
-    code_of(alloc, order, id_place(minor), octets.as_slice())
+    code_of(alloc, order, id_place(minor), &octets)
 }
 
 /// The head of a reply to an operation in a version: arm 0 is the answer, arm k the k-th of its exceptions. The
@@ -182,7 +185,7 @@ pub fn lead_reply(
     names_are_short(bound);
     let order = sent_order(bound);
     let octets = reply_octets(alloc, order, bound, op, arm, minor)?;
-    code_of(alloc, order, id_place(minor), octets.as_slice())
+    code_of(alloc, order, id_place(minor), &octets)
 }
 
 /// The operation that sets the size of a message, once all of it is there: the number of octets

@@ -5,6 +5,7 @@
 mod bodies;
 mod laws;
 mod leads;
+mod listing;
 mod lowering;
 mod names;
 mod numbered;

@@ -13,6 +13,7 @@ ghost use Rattle.back_cdr.specs.Offered.{ids_of, raised_by};
 ghost use Rattle.back_cdr.specs.Seeking.{Calls, named};
 ghost use Rattle.back_cdr.specs.Targets.{IsCdr};
 
+use crate::listing::Listing;
 use crate::numbered::{Numbered, demux_of};
 use crate::seek::laid;
 use crate::targets::operations_are_targets;
@@ -20,7 +21,8 @@ use aoi::{Interface, Operation, Raise};
 use demux::{Demux, WordName};
 use giop_head::{GiopRequest, read_request};
 use head_kit::{CallHead, CallTarget};
-use kit_base::{Listed, Name, NoMemory, Words};
+use kit_base::{Listed, NoMemory};
+use kit_shared::SharedNames;
 use pres::Bound;
 use std::alloc::Global;
 use wire_def::{Back, HeadErr};
@@ -31,16 +33,16 @@ use wire_def::{Back, HeadErr};
 pub struct Names {
     interfaces: Demux,
     offered: Listed<Numbered>,
-    raised: Listed<Numbered>,
+    raised: Listed<Listing>,
 }
 
 /// The repository ids of exceptions.
-fn words_of(alloc: Global, raises: &[Raise]) -> Result<Words, NoMemory>
+fn words_of(alloc: Global, raises: &[Raise]) -> Result<SharedNames, NoMemory>
     ensures { IfOk result (λ w. w ≡ ids_of raises.now) }
 {
-    let mut words = Words::new(alloc);
+    let mut words = SharedNames::new(alloc);
     for raise in raises {
-        words.push(Name::from_slice(alloc, raise.id.as_slice())?)?;
+        words.push(raise.id.share()?)?;
     }
     Ok(words)
 }
@@ -49,13 +51,13 @@ fn words_of(alloc: Global, raises: &[Raise]) -> Result<Words, NoMemory>
 fn append_raised(
     alloc: Global,
     ops: &[Operation],
-    raised: &mut Listed<Numbered>,
+    raised: &mut Listed<Listing>,
 ) -> Result<(), NoMemory>
     ensures { OnOk result (raised.new ≡ raised.old ++ map raised_by (map plain_operation ops.now)) }
 {
     for op in ops {
         let ids = words_of(alloc, op.raises.as_slice())?;
-        raised.push(Numbered::of(alloc, 1, &ids)?)?;
+        raised.push(Listing::of(alloc, ids)?)?;
     }
     Ok(())
 }
@@ -65,19 +67,19 @@ impl Names {
     fn new(alloc: Global, interfaces: &[Interface]) -> Result<Names, NoMemory>
         ensures { IfOk result (AreNames (map plain_interface interfaces.now)) }
     {
-        let mut words = Words::new(alloc);
+        let mut words = SharedNames::new(alloc);
         let mut offered = Listed::new(alloc);
         let mut raised = Listed::new(alloc);
         let mut first = 0;
         for i in interfaces {
-            words.push(Name::from_slice(alloc, i.name.as_slice())?)?;
+            words.push(i.name.share()?)?;
             let (numbered, next) = Numbered::new(alloc, first, i.ops.as_slice())?;
             offered.push(numbered)?;
             append_raised(alloc, i.ops.as_slice(), &mut raised)?;
             first = next;
         }
         Ok(Names {
-            interfaces: demux_of(alloc, &words)?,
+            interfaces: demux_of(alloc, words)?,
             offered,
             raised,
         })
@@ -147,7 +149,7 @@ impl Names {
         ensures { result ≡ raise_of self.now op id.now }
     {
         match self.raised.get(op as usize) {
-            Some(numbered) => numbered.number(id),
+            Some(listing) => listing.number(id),
             None => None,
         }
     }

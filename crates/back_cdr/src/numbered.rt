@@ -7,7 +7,8 @@ ghost use Rattle.back_cdr.specs.Offered.{names_of, number_in, operation_in};
 use aoi::Operation;
 use demux::{Demux, WordName};
 use head_kit::CallTarget;
-use kit_base::{Name, NoMemory, Words};
+use kit_base::NoMemory;
+use kit_shared::SharedNames;
 use std::alloc::Global;
 use std::marker::Model;
 
@@ -44,8 +45,8 @@ fn number_after(first: u32, many: usize) -> Result<u32, NoMemory>
 }
 
 /// Names that are to be found.
-pub(crate) fn demux_of(alloc: Global, names: &Words) -> Result<Demux, NoMemory>
-    ensures { IfOk result (λ d. d ≡ names.now) }
+pub(crate) fn demux_of(alloc: Global, names: SharedNames) -> Result<Demux, NoMemory>
+    ensures { IfOk result (λ d. d ≡ names) }
 {
     if names.len() > 4_294_967_295 {
         return Err(NoMemory);
@@ -54,20 +55,20 @@ pub(crate) fn demux_of(alloc: Global, names: &Words) -> Result<Demux, NoMemory>
 }
 
 /// The names of operations.
-fn words_of(alloc: Global, ops: &[Operation]) -> Result<Words, NoMemory>
+fn words_of(alloc: Global, ops: &[Operation]) -> Result<SharedNames, NoMemory>
     ensures { IfOk result (λ w. w ≡ names_of (map plain_operation ops.now)) }
 {
-    let mut words = Words::new(alloc);
+    let mut words = SharedNames::new(alloc);
     for op in ops {
-        words.push(Name::from_slice(alloc, op.name.as_slice())?)?;
+        words.push(op.name.share()?)?;
     }
     Ok(words)
 }
 
 impl Numbered {
     /// Names, of which the first has this number.
-    pub(crate) fn of(alloc: Global, first: u32, names: &Words) -> Result<Numbered, NoMemory>
-        ensures { IfOk result (λ n. n ≡ record { first = first; names = names.now }) }
+    pub(crate) fn of(alloc: Global, first: u32, names: SharedNames) -> Result<Numbered, NoMemory>
+        ensures { IfOk result (λ n. n ≡ record { first = first; names = names }) }
     {
         number_after(first, names.len())?;
         Ok(Numbered {
@@ -87,7 +88,7 @@ impl Numbered {
         ensures next { IfOk result (λ n. n.1 ≡ first + length (map plain_operation ops.now)) }
     {
         let next = number_after(first, ops.len())?;
-        let numbered = Numbered::of(alloc, first, &words_of(alloc, ops)?)?;
+        let numbered = Numbered::of(alloc, first, words_of(alloc, ops)?)?;
         Ok((numbered, next))
     }
 

@@ -6,7 +6,9 @@ ghost use Rattle.giop_head.specs.Printed as printed;
 ghost use Rattle.giop_head.specs.Printed.{answer_octets, begun_octets, header_octets, request_octets, status_octets, user_octets};
 ghost use Rattle.back_cdr.specs.Targets.{IsShort};
 
+use cast_stub::Constant;
 use kit_base::{NoMemory, Octets};
+use kit_shared::Shared;
 use std::alloc::Global;
 use wire_def::Order;
 
@@ -25,26 +27,29 @@ fn counted(octets: &[u8]) -> u32
 }
 
 /// The header of a message.
-fn header(alloc: Global, minor: u8, order: Order, message_type: u8) -> Result<Octets, NoMemory>
+fn header(alloc: Global, minor: u8, order: Order, message_type: u8) -> Result<Constant, NoMemory>
     ensures { IfOk result (λ o. o ≡ header_octets minor order message_type) }
 {
-    Octets::from_slice(alloc, &giop_head::header_octets(minor, order, message_type))
+    Ok(Constant::of(
+        alloc,
+        Octets::from_slice(alloc, &giop_head::header_octets(minor, order, message_type))?,
+    ))
 }
 
 /// An unsigned long after other octets.
-fn then_long(order: Order, n: u32, octets: Octets) -> Result<Octets, NoMemory>
+fn then_long(order: Order, n: u32, octets: Constant) -> Result<Constant, NoMemory>
     ensures { IfOk result (λ o. o ≡ printed.then_long order n octets) }
 {
     let mut octets = octets;
     let zeros = [0u8; 4];
-    let gap = (4 - octets.len() % 4) % 4;
+    let gap = ((4 - octets.len() % 4) % 4) as usize;
     octets.append(&zeros[..gap])?;
     octets.append(&giop_head::long_octets(order, n))?;
     Ok(octets)
 }
 
 /// A sequence of octets after others.
-fn then_sequence(order: Order, piece: &[u8], octets: Octets) -> Result<Octets, NoMemory>
+fn then_sequence(order: Order, piece: &[u8], octets: Constant) -> Result<Constant, NoMemory>
     requires { IsShort piece.now }
     ensures { IfOk result (λ o. o ≡ printed.then_sequence order piece.now octets) }
 {
@@ -53,14 +58,43 @@ fn then_sequence(order: Order, piece: &[u8], octets: Octets) -> Result<Octets, N
     Ok(octets)
 }
 
+/// A sequence of octets, of which this is one more owner, after others.
+fn then_shared_sequence(
+    order: Order,
+    piece: &Shared<Octets>,
+    octets: Constant,
+) -> Result<Constant, NoMemory>
+    requires { IsShort piece.now }
+    ensures { IfOk result (λ o. o ≡ printed.then_sequence order piece.now octets) }
+{
+    let mut octets = then_long(order, counted(piece.as_slice()), octets)?;
+    octets.append_shared(piece)?;
+    Ok(octets)
+}
+
+/// A string, of which this is one more owner, after other octets.
+fn then_shared_string(
+    order: Order,
+    piece: &Shared<Octets>,
+    octets: Constant,
+) -> Result<Constant, NoMemory>
+    requires { IsShort piece.now }
+    ensures { IfOk result (λ o. o ≡ printed.then_string order piece.now octets) }
+{
+    let mut octets = then_long(order, counted(piece.as_slice()) + 1, octets)?;
+    octets.append_shared(piece)?;
+    octets.append(&[0])?;
+    Ok(octets)
+}
+
 /// A string after other octets.
-fn then_string(order: Order, piece: &[u8], octets: Octets) -> Result<Octets, NoMemory>
+fn then_string(order: Order, piece: &[u8], octets: Constant) -> Result<Constant, NoMemory>
     requires { IsShort piece.now }
     ensures { IfOk result (λ o. o ≡ printed.then_string order piece.now octets) }
 {
     let mut octets = then_long(order, counted(piece) + 1, octets)?;
     octets.append(piece)?;
-    octets.push(0)?;
+    octets.append(&[0])?;
     Ok(octets)
 }
 
@@ -82,12 +116,12 @@ fn short_octets(order: Order, n: u16) -> [u8; 2]
 }
 
 /// An unsigned short after other octets.
-fn then_short(order: Order, n: u16, octets: Octets) -> Result<Octets, NoMemory>
+fn then_short(order: Order, n: u16, octets: Constant) -> Result<Constant, NoMemory>
     ensures { IfOk result (λ o. o ≡ printed.then_short order n octets) }
 {
     let mut octets = octets;
     let zeros = [0u8; 2];
-    let gap = (2 - octets.len() % 2) % 2;
+    let gap = ((2 - octets.len() % 2) % 2) as usize;
     octets.append(&zeros[..gap])?;
     octets.append(&short_octets(order, n))?;
     Ok(octets)
@@ -103,7 +137,7 @@ fn response_flags(wants: bool) -> u8
 // ---- what differs between versions
 
 /// No service contexts, where they come before all other fields.
-fn then_first(minor: u8, order: Order, octets: Octets) -> Result<Octets, NoMemory>
+fn then_first(minor: u8, order: Order, octets: Constant) -> Result<Constant, NoMemory>
     ensures { IfOk result (λ o. o ≡ printed.then_first minor order octets) }
 {
     if minor == 0 {
@@ -114,7 +148,7 @@ fn then_first(minor: u8, order: Order, octets: Octets) -> Result<Octets, NoMemor
 }
 
 /// No service contexts, where they come after the status of a reply.
-fn then_last(minor: u8, order: Order, octets: Octets) -> Result<Octets, NoMemory>
+fn then_last(minor: u8, order: Order, octets: Constant) -> Result<Constant, NoMemory>
     ensures { IfOk result (λ o. o ≡ printed.then_last minor order octets) }
 {
     if minor == 0 {
@@ -125,12 +159,12 @@ fn then_last(minor: u8, order: Order, octets: Octets) -> Result<Octets, NoMemory
 }
 
 /// Whether a reply is wanted, after other octets.
-fn then_wants(minor: u8, wants: bool, octets: Octets) -> Result<Octets, NoMemory>
+fn then_wants(minor: u8, wants: bool, octets: Constant) -> Result<Constant, NoMemory>
     ensures { IfOk result (λ o. o ≡ printed.then_wants minor wants octets) }
 {
     let mut octets = octets;
     if minor == 0 {
-        octets.push(flag(wants))?;
+        octets.append(&[flag(wants)])?;
     } else {
         octets.append(&[response_flags(wants), 0, 0, 0])?;
     }
@@ -138,7 +172,7 @@ fn then_wants(minor: u8, wants: bool, octets: Octets) -> Result<Octets, NoMemory
 }
 
 /// A key as the target, after other octets.
-fn then_target(minor: u8, order: Order, octets: Octets) -> Result<Octets, NoMemory>
+fn then_target(minor: u8, order: Order, octets: Constant) -> Result<Constant, NoMemory>
     ensures { IfOk result (λ o. o ≡ printed.then_target minor order octets) }
 {
     if minor == 0 {
@@ -149,7 +183,7 @@ fn then_target(minor: u8, order: Order, octets: Octets) -> Result<Octets, NoMemo
 }
 
 /// The last fields of a request's head, after other octets.
-fn then_close(minor: u8, order: Order, octets: Octets) -> Result<Octets, NoMemory>
+fn then_close(minor: u8, order: Order, octets: Constant) -> Result<Constant, NoMemory>
     ensures { IfOk result (λ o. o ≡ printed.then_close minor order octets) }
 {
     if minor == 0 {
@@ -160,13 +194,13 @@ fn then_close(minor: u8, order: Order, octets: Octets) -> Result<Octets, NoMemor
 }
 
 /// Zeros up to a multiple of 8, where a body follows in version 1.2.
-fn then_gap(minor: u8, body: bool, octets: Octets) -> Result<Octets, NoMemory>
+fn then_gap(minor: u8, body: bool, octets: Constant) -> Result<Constant, NoMemory>
     ensures { IfOk result (λ o. o ≡ printed.then_gap minor body octets) }
 {
     let mut octets = octets;
     if minor != 0 && body {
         let zeros = [0u8; 8];
-        let gap = (8 - octets.len() % 8) % 8;
+        let gap = ((8 - octets.len() % 8) % 8) as usize;
         octets.append(&zeros[..gap])?;
     }
     Ok(octets)
@@ -175,7 +209,7 @@ fn then_gap(minor: u8, body: bool, octets: Octets) -> Result<Octets, NoMemory>
 // ---- heads
 
 /// What comes before a key in a request, with 0 as its id.
-fn begun(alloc: Global, minor: u8, order: Order, wants: bool) -> Result<Octets, NoMemory>
+fn begun(alloc: Global, minor: u8, order: Order, wants: bool) -> Result<Constant, NoMemory>
     ensures { IfOk result (λ o. o ≡ begun_octets minor order 0 wants) }
 {
     let octets = header(alloc, minor, order, REQUEST)?;
@@ -193,23 +227,23 @@ pub(crate) fn request(
     body: bool,
     order: Order,
     wants: bool,
-    key: &[u8],
+    key: &Shared<Octets>,
     name: &[u8],
-) -> Result<Octets, NoMemory>
+) -> Result<Constant, NoMemory>
     requires key { IsShort key.now }
     requires name { IsShort name.now }
     ensures { IfOk result (λ o. o ≡ request_octets minor body order
         (record { id = 0; wants = wants; key = key.now; name = name.now })) }
 {
     let octets = begun(alloc, minor, order, wants)?;
-    let octets = then_sequence(order, key, octets)?;
+    let octets = then_shared_sequence(order, key, octets)?;
     let octets = then_string(order, name, octets)?;
     let octets = then_close(minor, order, octets)?;
     then_gap(minor, body, octets)
 }
 
 /// The head of a reply, up to what follows its status.
-fn status(alloc: Global, minor: u8, order: Order, status: u32) -> Result<Octets, NoMemory>
+fn status(alloc: Global, minor: u8, order: Order, status: u32) -> Result<Constant, NoMemory>
     ensures { IfOk result (λ o. o ≡ status_octets minor order 0 status) }
 {
     let octets = header(alloc, minor, order, REPLY)?;
@@ -220,7 +254,7 @@ fn status(alloc: Global, minor: u8, order: Order, status: u32) -> Result<Octets,
 }
 
 /// The head of an answer.
-pub(crate) fn answer(alloc: Global, minor: u8, order: Order) -> Result<Octets, NoMemory>
+pub(crate) fn answer(alloc: Global, minor: u8, order: Order) -> Result<Constant, NoMemory>
     ensures { IfOk result (λ o. o ≡ answer_octets minor order 0) }
 {
     status(alloc, minor, order, 0)
@@ -231,11 +265,11 @@ pub(crate) fn user(
     alloc: Global,
     minor: u8,
     order: Order,
-    exception: &[u8],
-) -> Result<Octets, NoMemory>
+    exception: &Shared<Octets>,
+) -> Result<Constant, NoMemory>
     requires { IsShort exception.now }
     ensures { IfOk result (λ o. o ≡ user_octets minor order 0 exception.now) }
 {
     let octets = status(alloc, minor, order, 1)?;
-    then_string(order, exception, octets)
+    then_shared_string(order, exception, octets)
 }

@@ -6,6 +6,8 @@ ghost use Rattle.back_cdr.specs.Targets as defs;
 ghost use Rattle.back_cdr.specs.Targets.{HasShortNames, IsCdr, no_target, target_in, target_of, targets};
 
 use aoi::{Interface, Operation, Raise};
+use kit_base::Name;
+use kit_shared::Shared;
 use pres::Bound;
 use wire_def::{Back, Order};
 
@@ -65,17 +67,17 @@ pub(crate) fn operation_of(bound: &Bound, op: u32) -> (&Interface, &Operation)
 }
 
 /// The repository id of an exception, by its place from 1.
-fn id_at(raises: &[Raise], arm: u32) -> &[u8]
+fn id_at(raises: &[Raise], arm: u32) -> &Shared<Name>
     requires some { 0 < arm }
     requires there { arm ≤ length raises.now }
     ensures { result.now
         ≡ slice_index_or (map (λ (r : PlainRaise). r.id) (map plain_raise raises.now)) (arm - 1) [] }
 {
-    raises[arm as usize - 1].id.as_slice()
+    &raises[arm as usize - 1].id
 }
 
 /// The repository id of an operation's exception, by its place from 1.
-pub(crate) fn exception_of(bound: &Bound, op: u32, arm: u32) -> &[u8]
+pub(crate) fn exception_of(bound: &Bound, op: u32, arm: u32) -> &Shared<Name>
     requires cdr { IsCdr bound.now.back }
     requires op { op < length bound.now.ops }
     requires some { 0 < arm }

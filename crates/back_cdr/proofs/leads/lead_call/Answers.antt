@@ -11,14 +11,14 @@ pub code_of-requires-clause-many : goal.code_of-requires-clause-many
 code_of-requires-clause-many c =
     let t = target_of c.args.bound.now c.args.op in
     let has = has_body c.args.bound.now c.args.op in
-    rw (c.as_slice.ensures, c.in_ok-octets.ensures, c.id_place.ensures.value)
+    rw (c.in_ok-octets.ensures, c.id_place.ensures.value)
     (call_long c.args.minor has c.sent_order-order.result t)
 
 pub code_of-requires-clause-few : goal.code_of-requires-clause-few
 code_of-requires-clause-few c =
     let t = target_of c.args.bound.now c.args.op in
     let has = has_body c.args.bound.now c.args.op in
-    rw (c.as_slice.ensures, c.in_ok-octets.ensures)
+    rw c.in_ok-octets.ensures
     (call_few c.args.minor has c.sent_order-order.result t 0 (c.names_are_short.ensures c.args.op))
 
 pub returns-clause-means : goal.returns-clause-means
@@ -26,10 +26,10 @@ returns-clause-means c =
     let t = target_of c.args.bound.now c.args.op in
     let r = order_of c.args.bound.now.back in
     let has = has_body c.args.bound.now c.args.op in
-    let same : (id : ℕ) → with_id c.sent_order-order.result c.id_place.result c.as_slice.result.now id
+    let same : (id : ℕ) → with_id c.sent_order-order.result c.id_place.result c.in_ok-octets.octets id
     ≡ lead c.args.minor has r t id =
     λ id.
-    rw (c.as_slice.ensures, c.in_ok-octets.ensures, c.id_place.ensures.value, c.sent_order-order.ensures)
+    rw (c.in_ok-octets.ensures, c.id_place.ensures.value, c.sent_order-order.ensures)
     (call_put c.args.minor has r t id) in
-    leads_along c.code_of.result (with_id c.sent_order-order.result c.id_place.result c.as_slice.result.now)
+    leads_along c.code_of.result (with_id c.sent_order-order.result c.id_place.result c.in_ok-octets.octets)
     (lead c.args.minor has r t) same c.code_of.ensures.means
