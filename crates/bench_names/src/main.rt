@@ -72,7 +72,12 @@ fn names_of(alloc: Global, shape: Shape, count: u32, octets: u32) -> Result<Shar
     Ok(names)
 }
 
-fn by_tree(alloc: Global, names: SharedNames, sought: &[u8], searches: u32) -> Result<u64, NoMemory> {
+fn by_tree(
+    alloc: Global,
+    names: SharedNames,
+    sought: &[u8],
+    searches: u32,
+) -> Result<u64, NoMemory> {
     if names.len() > 4_294_967_295 {
         return Err(NoMemory);
     }
@@ -86,7 +91,12 @@ fn by_tree(alloc: Global, names: SharedNames, sought: &[u8], searches: u32) -> R
     Ok(sum)
 }
 
-fn by_map(alloc: Global, names: &SharedNames, sought: &[u8], searches: u32) -> Result<u64, NoMemory> {
+fn by_map(
+    alloc: Global,
+    names: &SharedNames,
+    sought: &[u8],
+    searches: u32,
+) -> Result<u64, NoMemory> {
     let mut map = BTreeMap::new(alloc);
     for (place, name) in names.as_slice().iter().enumerate() {
         map.insert(Vec::from_slice(alloc, name.as_slice())?, place as u64)?;

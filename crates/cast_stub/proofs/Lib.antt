@@ -4,7 +4,7 @@
 pub mod Appending
 -- * A receive code after a receive code, and an operation as a piece before others, by induction on the first code
 pub mod RecvAppending
--- * Octets in three pieces, as one list
+-- Octets in three pieces, as one list
 pub mod Pieced
 -- * One operation more after a code
 pub mod Adding

@@ -34,7 +34,10 @@ impl Model for Demux {
 }
 
 /// The names in the order of their lengths and words.
-fn in_order<'a>(alloc: Global, names: &'a [Shared<Name>]) -> Result<Vec<(usize, &'a [u8])>, NoMemory> {
+fn in_order<'a>(
+    alloc: Global,
+    names: &'a [Shared<Name>],
+) -> Result<Vec<(usize, &'a [u8])>, NoMemory> {
     let mut sorted = Vec::new(alloc);
     for name in names {
         sorted.push((name.len(), name.as_slice()))?;

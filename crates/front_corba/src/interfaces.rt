@@ -18,8 +18,8 @@ use corba_shapes::{Shapes, declare};
 use corba_syntax::{Export, Interface};
 use idl_names::refuse;
 use kit_base::Name;
-use kit_shared::Shared;
 use kit_base::limits::MOST_INTERFACES;
+use kit_shared::Shared;
 use std::alloc::Global;
 
 /// Declares one export of an interface, by its number as a declaration.

@@ -13,8 +13,8 @@ use crate::Op;
 use crate::sizes::Size;
 use aoi::{Interface, Operation, Raise};
 use kit_base::Name;
-use kit_shared::Shared;
 use kit_base::limits::{DEEPEST, LONGEST_NAME, MOST_OPERATION_NODES, MOST_UNIT_NODES};
+use kit_shared::Shared;
 
 fn is_long(name: &Shared<Name>) -> bool
     ensures { result ≡ is_long name.now }

@@ -104,10 +104,7 @@ impl FieldTable {
     }
 
     /// A table of the names of fields that are of ASCII, of which this is one more owner.
-    pub(crate) fn shared(
-        alloc: Global,
-        fields: &Shared<Fields>,
-    ) -> Result<FieldTable, NoMemory>
+    pub(crate) fn shared(alloc: Global, fields: &Shared<Fields>) -> Result<FieldTable, NoMemory>
         requires { AreAscii (names_of (members fields.now)) }
         ensures { IfOk result (λ t. t ≡ names_of (members fields.now)) }
     {

@@ -156,7 +156,13 @@ fn add_long(alloc: Global, kind: Kind, out: &mut SendOps) -> Result<(), NoMemory
 {
     let octets = long_octets(alloc, kind)?;
     let many = Put::Count(8, Path::new(alloc), units_in(kind), 0, 4, Order::Little);
-    add_pair(alloc, 12, Put::Const(0, Constant::of(alloc, octets)), many, out)
+    add_pair(
+        alloc,
+        12,
+        Put::Const(0, Constant::of(alloc, octets)),
+        many,
+        out,
+    )
 }
 
 /// Puts the short descriptor of an array.

@@ -5,7 +5,9 @@ ghost use Rattle.stub_print.specs.Putting.{IsPut};
 ghost use Rattle.stub_print.specs.SendText.{field_word, put_words, puts_text};
 ghost use Rattle.stub_print.specs.Words.{hex, line, numeral, order_word, path_word, spaced, words};
 
-use crate::words::{end_line, put_first, put_hex, put_number, put_order, put_path, put_pieces, put_word};
+use crate::words::{
+    end_line, put_first, put_hex, put_number, put_order, put_path, put_pieces, put_word,
+};
 use cast_stub::{Constant, HeadField, Path, Put, Puts};
 use kit_base::{NoMemory, Octets};
 use wire_def::Order;
