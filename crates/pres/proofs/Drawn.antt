@@ -59,7 +59,7 @@ sign_by (maybe f) is = refl
 
 -- ---- fields
 
-field_seen : (f : Field) → aoi.seen_field f ≡ (f.name, aoi.seen f.ty)
+pub field_seen : (f : Field) → aoi.seen_field f ≡ (f.name, aoi.seen f.ty)
 field_seen f = search (rules, the_lemmas)
 
 cut_fields : (fields : List Field) (i : ℕ) (f : Field) → i < length fields → f ≡ get_or fields i f

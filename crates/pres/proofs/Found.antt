@@ -27,6 +27,10 @@ pub named : (rs : List PlainRaise) (k : ℕ) (s : List ℕ) → number_from s k 
 named [] k s = refl
 named (r ∷ rs) k s = ap (λ (z : Option ℕ). if bytes_eq (text_of r.name) s then Some k else z) (named rs (suc k) s)
 
+-- a table of the names of exceptions finds them
+pub table_named : (rs : List PlainRaise) (names table : List (List ℕ)) → table ≡ names → names ≡ names_in rs → FindsRaises rs table
+table_named rs names table e f = λ s. ap (λ (ns : List (List ℕ)). number_from s 1 ns) (e ∙ f) ∙ named rs 1 s
+
 -- a name of ASCII is the string of its octets
 ascii_name : (name s : List ℕ) → IsAscii name → bytes_eq name s ≡ bytes_eq (text_of name) s
 ascii_name name s h = ap (λ (t : List ℕ). bytes_eq t s) (sym (encodes-IsAscii name h))

@@ -119,10 +119,7 @@ impl FieldTable {
     pub fn len(&self) -> usize
         ensures { result ≡ length self.now }
     {
-        match &self.fields {
-            Some(fields) => count_of(fields.as_slice()),
-            None => self.own.len(),
-        }
+        held_len(&self.own, &self.fields)
     }
 
     /// The name at a place.
@@ -130,10 +127,7 @@ impl FieldTable {
         requires { i < length self.now }
         ensures { result.now ≡ slice_index_or self.now i [] }
     {
-        match &self.fields {
-            Some(fields) => name_at(fields.as_slice(), i),
-            None => self.own.as_slice()[i].as_slice(),
-        }
+        held_name(&self.own, &self.fields, i)
     }
 
     /// The string of the name at a place.
@@ -157,8 +151,29 @@ fn count_of(fields: &[Field]) -> usize
 
 /// The name of a field.
 fn name_at(fields: &[Field], i: usize) -> &[u8]
-    requires { i < length (names_of (members fields.now)) }
+    requires { i < length fields.now }
     ensures { result.now ≡ slice_index_or (names_of (members fields.now)) i [] }
 {
     fields[i].name.as_slice()
+}
+
+/// How many names are held.
+fn held_len(own: &Words, fields: &Option<Shared<Fields>>) -> usize
+    ensures { result ≡ length (names_held own.now fields.now) }
+{
+    match fields {
+        Some(fields) => count_of(fields.as_slice()),
+        None => own.len(),
+    }
+}
+
+/// The name that is held at a place.
+fn held_name<'a>(own: &'a Words, fields: &'a Option<Shared<Fields>>, i: usize) -> &'a [u8]
+    requires { i < length (names_held own.now fields.now) }
+    ensures { result.now ≡ slice_index_or (names_held own.now fields.now) i [] }
+{
+    match fields {
+        Some(fields) => name_at(fields.as_slice(), i),
+        None => own.as_slice()[i].as_slice(),
+    }
 }

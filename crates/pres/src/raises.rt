@@ -31,7 +31,9 @@ fn names_of(alloc: Global, raises: &[Raise]) -> Result<SharedNames, NoMemory>
 fn raise_table(alloc: Global, raises: &[Raise]) -> Result<RaiseTable, NoMemory>
     ensures { IfOk result (λ table. FindsRaises (map plain_raise raises.now) table) }
 {
-    RaiseTable::new(alloc, names_of(alloc, raises)?)
+    let names = names_of(alloc, raises)?;
+    let table = RaiseTable::new(alloc, names)?;
+    Ok(table)
 }
 
 /// Adds the tables of operations.
@@ -60,7 +62,9 @@ fn put_gotten(
         tables.old.items tables.new.items) }
 {
     if gets_null(back, interface) {
-        tables.push(RaiseTable::new(alloc, SharedNames::new(alloc))?)?;
+        let names = SharedNames::new(alloc);
+        let table = RaiseTable::new(alloc, names)?;
+        tables.push(table)?;
     }
     Ok(())
 }

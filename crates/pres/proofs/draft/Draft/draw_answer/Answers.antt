@@ -15,7 +15,8 @@ answer_is c =
     let g = rw c.get.ensures at c.in_ok-id.ensures.grows in
     let h = rw (c.as_slice.ensures, g.types) at c.in_ok-outs.ensures.grows in
     let ds = rw (c.as_slice.ensures, g.types) at c.in_ok-outs.ensures.ids in
-    answer_by _ _ _ (plain_operation c.args.op.now) c.in_ok-id.id c.in_ok-outs.outs _ (known c.args.self.now) h (rw c.get.ensures at c.in_ok-id.ensures.id) ds
+    let d = rw c.get.ensures at c.in_ok-id.ensures.id in
+    answer_by _ _ _ (plain_operation c.args.op.now) c.in_ok-id.id c.in_ok-outs.outs _ (known c.args.self.now) h d ds
     (c.in_ok-append.ensures.ok ∙ rw (c.in_ok-push.ensures.ok, c.as_slice-2.ensures, c.new-ids.ensures) refl)
 
 both_grow : (c : goal.After-drop-outs-inside-2)
