@@ -4,8 +4,6 @@
 pub mod Appending
 -- * A receive code after a receive code, and an operation as a piece before others, by induction on the first code
 pub mod RecvAppending
--- Octets in three pieces, as one list
-pub mod Pieced
 -- * One operation more after a code
 pub mod Adding
 -- Code from an operation on

@@ -89,11 +89,12 @@ impl Constant {
     pub fn append_shared(&mut self, piece: &Shared<Octets>) -> Result<(), NoMemory>
         ensures { OnOk result (self.new ≡ self.old ++ piece.now) }
     {
-        if piece.len() < LONG || self.piece.is_some() || self.rest.len() > 0 {
-            return self.append(piece.as_slice());
+        let own = &mut self.piece;
+        if piece.len() >= LONG && own.is_none() && self.rest.len() == 0 {
+            *own = Some(piece.share()?);
+            return Ok(());
         }
-        self.piece = Some(piece.share()?);
-        Ok(())
+        self.append(piece.as_slice())
     }
 
     /// Appends a piece, if there is one.
