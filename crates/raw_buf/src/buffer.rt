@@ -130,6 +130,7 @@ impl SendBuf {
 
     /// Stores octets in three pieces, one behind the other, at an offset from the cursor, in the space that is ensured.
     /// It counts as one store.
+    #[tactic(auto, using(crate::proofs::Pieced::written_three))]
     pub fn put_pieces(&mut self, off: usize, front: &[u8], piece: &[u8], rest: &[u8])
         requires { off + length (front.now ++ (piece.now ++ rest.now)) ≤ length self.old.front }
         ensures done { self.new.done ≡ self.old.done }
@@ -138,8 +139,10 @@ impl SendBuf {
         ensures spent { self.new.spent ≡ stored self.old.spent }
     {
         self.store(off, front);
-        self.store(off + front.len(), piece);
-        self.store(off + front.len() + piece.len(), rest);
+        let second = self.behind(off, front);
+        self.store(second, piece);
+        let third = self.behind(second, piece);
+        self.store(third, rest);
         self.count_store();
     }
 
@@ -251,6 +254,15 @@ impl SendBuf {
     {
         let start = self.len + off;
         write_at(&mut self.memory, start, octets);
+    }
+
+    /// The offset behind octets at an offset.
+    fn behind(&self, off: usize, octets: &[u8]) -> usize
+        requires { off + length octets.now ≤ length self.now.front }
+        ensures { result ≡ off + length octets.now }
+    {
+        let _space = self.ahead;
+        off + octets.len()
     }
 
     /// Stores a number at an offset, at no cost.
