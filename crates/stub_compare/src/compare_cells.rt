@@ -17,18 +17,18 @@ use stub_places::is_width;
 
 // ---- puts
 
-fn wide(width: u32) -> Option<usize>
+fn wide(width: u32) -> Option<u128>
     ensures { result ≡ wide width }
 {
     if is_width(width) {
-        Some(width as usize)
+        Some(u128::from(width))
     } else {
         None
     }
 }
 
 /// How many octets a put has.
-fn put_length(put: &Put) -> Option<usize>
+fn put_length(put: &Put) -> Option<u128>
     ensures { result ≡ put_length put.now }
 {
     match put {
@@ -42,7 +42,7 @@ fn put_length(put: &Put) -> Option<usize>
     }
 }
 
-fn plus(a: Option<usize>, b: Option<usize>) -> Result<Option<usize>, NoMemory>
+fn plus(a: Option<u128>, b: Option<u128>) -> Result<Option<u128>, NoMemory>
     ensures { IfOk result (λ n. n ≡ plus a b) }
 {
     let Some(a) = a else {
@@ -58,7 +58,7 @@ fn plus(a: Option<usize>, b: Option<usize>) -> Result<Option<usize>, NoMemory>
 }
 
 /// How many octets puts have.
-fn lengths(puts: &Puts) -> Result<Option<usize>, NoMemory>
+fn lengths(puts: &Puts) -> Result<Option<u128>, NoMemory>
     ensures { IfOk result (λ n. n ≡ lengths puts.now) }
 {
     let mut sum = Some(0);
@@ -101,11 +101,11 @@ fn offset(put: &Put) -> u32
 // ---- places
 
 /// Whether so many places from one on go beyond the last.
-fn is_outside(at: usize, count: usize, len: usize) -> bool
+fn is_outside(at: usize, count: u128, len: usize) -> bool
     ensures outside { result ≡ true → len < at + count }
     ensures inside { result ≡ false → at + count ≤ len }
 {
-    at > len || count > len - at
+    at > len || count > (len - at) as u128
 }
 
 /// Lays an octet at a place, if that lies within and is free.
@@ -124,7 +124,7 @@ fn lay_one(places: &mut Vec<Place>, at: usize, owner: (u32, u32)) -> bool
 }
 
 /// Lays the octets of the put of a number, where they lie within and the places are free.
-fn lay(places: &mut Vec<Place>, at: usize, count: usize, i: u32, turned: bool) -> bool
+fn lay(places: &mut Vec<Place>, at: usize, count: u128, i: u32, turned: bool) -> bool
     requires { vec_len places.old < 2 ^ 32 }
     ensures laid { IsTold result (laid at (owners i turned count) places.old.items)
         (λ ds. ds ≡ places.new.items) }
@@ -133,6 +133,7 @@ fn lay(places: &mut Vec<Place>, at: usize, count: usize, i: u32, turned: bool) -
     if is_outside(at, count, places.len()) {
         return false;
     }
+    let count = count as usize;
     for j in 0..count {
         let owner = (i, turned_at(turned, count, j) as u32);
         if !lay_one(places, at + j, owner) {
@@ -195,12 +196,12 @@ fn lay_all(places: &mut Vec<Place>, puts: &Puts) -> Result<bool, NoMemory>
 
 // ---- a chunk
 
-fn is_just(n: Option<usize>, size: u32) -> bool
+fn is_just(n: Option<u128>, size: u32) -> bool
     ensures just { result ≡ true → n ≡ Some size }
     ensures other { result ≡ false → n ≡ Some size → ⊥ }
 {
     match n {
-        Some(m) => m == size as usize,
+        Some(m) => m == u128::from(size),
         None => false,
     }
 }

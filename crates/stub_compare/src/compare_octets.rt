@@ -8,7 +8,7 @@ ghost use Rattle.stub_compare.specs.CompareText.{cell_text, cells_text};
 ghost use Rattle.stub_compare.specs.CompareTold.{IsPut, IsTold};
 
 use crate::compare_text::{Numbers, field_number, put_number, put_over};
-use cast_stub::{Put, Puts};
+use cast_stub::{Constant, Put, Puts};
 use kit_base::NoMemory;
 use wire_def::Order;
 
@@ -72,7 +72,7 @@ fn put_octet(out: &mut Numbers, put: &Put, k: u32) -> Result<(), NoMemory>
             put_number(out, *size)?;
             put_number(out, *factor)
         }
-        Put::Const(_, octets) => put_number(out, octet_at(octets.as_slice(), k as usize) + 8),
+        Put::Const(_, octets) => put_number(out, octet_in(octets, k as usize) + 8),
         Put::Head(_, field, _, _) => {
             put_part(out, k)?;
             put_number(out, 5)?;
@@ -89,6 +89,21 @@ fn octet_at(octets: &[u8], k: usize) -> u32
     match octets.get(k) {
         Some(octet) => u32::from(*octet),
         None => 0,
+    }
+}
+
+/// The octet of a constant at a place, 0 behind the last.
+fn octet_in(octets: &Constant, k: usize) -> u32
+    ensures value { result ≡ slice_index octets.now k }
+    ensures most { result < 256 }
+{
+    let (front, piece, rest) = octets.pieces();
+    if k < front.len() {
+        octet_at(front, k)
+    } else if k - front.len() < piece.len() {
+        octet_at(piece, k - front.len())
+    } else {
+        octet_at(rest, k - front.len() - piece.len())
     }
 }
 
