@@ -154,15 +154,9 @@ pub(crate) fn add_count(
 fn add_long(alloc: Global, kind: Kind, out: &mut SendOps) -> Result<(), NoMemory>
     ensures { OnOk result (code_seen out.new ≡ append (code_seen out.old) (long_code (number kind))) }
 {
-    let octets = long_octets(alloc, kind)?;
+    let words = Put::Const(0, Constant::of(alloc, long_octets(alloc, kind)?));
     let many = Put::Count(8, Path::new(alloc), units_in(kind), 0, 4, Order::Little);
-    add_pair(
-        alloc,
-        12,
-        Put::Const(0, Constant::of(alloc, octets)),
-        many,
-        out,
-    )
+    add_pair(alloc, 12, words, many, out)
 }
 
 /// Puts the short descriptor of an array.
@@ -171,12 +165,8 @@ fn add_short(alloc: Global, kind: Kind, out: &mut SendOps) -> Result<(), NoMemor
     ensures { OnOk result (code_seen out.new ≡ append (code_seen out.old) (short_code (number kind))) }
 {
     let (name, size, units) = (name_of(kind), bits_of(kind), units_in(kind));
-    add_chunk(
-        alloc,
-        4,
-        Put::Short(0, Path::new(alloc), name, size, units),
-        out,
-    )
+    let put = Put::Short(0, Path::new(alloc), name, size, units);
+    add_chunk(alloc, 4, put, out)
 }
 
 /// Puts the descriptor of an array of a Mach message.
