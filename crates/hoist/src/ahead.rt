@@ -1,6 +1,6 @@
 //! What is ensured before operations, while they are visited from the last to the first.
 
-ghost use Rattle.std.specs.Prelude.{◌≡◌, ◌+◌, reverse, OnOk, IfOk};
+ghost use Rattle.std.specs.Prelude.{◌≡◌, ◌≤◌, ◌+◌, ◌^◌, reverse, OnOk, OnErr, IfOk};
 ghost use Rattle.cast_stub.specs.Block.{code_seen};
 ghost use Rattle.hoist.specs.Hoisted.{raised, some_octets, closed, settled, small, loop};
 ghost use Rattle.hoist.specs.Seen.{ahead_seen, after, plan_seen};
@@ -37,7 +37,8 @@ fn some_octets(n: u32, k: u32) -> Ahead
 }
 
 fn sum(m: u32, n: u32) -> Result<u32, NoMemory>
-    ensures { IfOk result (λ s. s ≡ m + n) }
+    ensures ok { IfOk result (λ s. s ≡ m + n) }
+    ensures err { OnErr result (2 ^ 32 ≤ m + n) }
 {
     match m.checked_add(n) {
         Some(sum) => Ok(sum),

@@ -1,6 +1,6 @@
 //! The most octets that code appends.
 
-ghost use Rattle.std.specs.Prelude.{◌≡◌, ◌<◌, [], length, option_map, IfOk, None, Some, if◌then◌else◌};
+ghost use Rattle.std.specs.Prelude.{◌≡◌, ◌≤◌, ◌<◌, ◌+◌, ◌*◌, ◌^◌, ℕ, [], length, option_map, IfOk, OnErr, None, Some, if◌then◌else◌};
 ghost use Rattle.std.specs.Ordering.{int_eq};
 ghost use Rattle.mint.specs.Types.{Scalar, scalar_type, type_at, unfolded, others_at, ArmsBelow, IsBelow};
 ghost use Rattle.mint.specs.Types.{arms_at as mint_arms};
@@ -18,7 +18,8 @@ use mint::table::{Mint, NodeId};
 
 /// The sum, which is a u32, or none where memory runs out.
 fn plus(a: Option<u32>, b: Option<u32>) -> Result<Option<u32>, NoMemory>
-    ensures { IfOk result (λ n. n ≡ plus a b) }
+    ensures ok { IfOk result (λ n. n ≡ plus a b) }
+    ensures err { OnErr result ((m : ℕ) × (n : ℕ) × (a ≡ Some m) × (b ≡ Some n) × (2 ^ 32 ≤ m + n)) }
 {
     let Some(a) = a else {
         return Ok(None);
@@ -34,7 +35,8 @@ fn plus(a: Option<u32>, b: Option<u32>) -> Result<Option<u32>, NoMemory>
 
 /// So many times, by the greatest count.
 fn times(count: Count, turn: Option<u32>) -> Result<Option<u32>, NoMemory>
-    ensures { IfOk result (λ n. n ≡ times (most count) turn) }
+    ensures ok { IfOk result (λ n. n ≡ times (most count) turn) }
+    ensures err { OnErr result ((m : ℕ) × (n : ℕ) × (most count ≡ Some m) × (turn ≡ Some n) × (2 ^ 32 ≤ m * n)) }
 {
     let (Count::Exactly(m) | Count::AtMost(m)) = count else {
         return Ok(None);

@@ -1,10 +1,10 @@
 //! How the room of operations with bodies is ensured.
 
-ghost use Rattle.std.specs.Prelude.{◌≡◌, ◌<◌, ℕ, List, length, IfOk};
+ghost use Rattle.std.specs.Prelude.{◌≡◌, ◌<◌, ℕ, List, length, IfOk, OnErr};
 ghost use Rattle.mint.specs.Types.{type_at};
 ghost use Rattle.cast_stub.specs.Block.{code_seen, cases_seen};
 ghost use Rattle.storage_class.specs.Spans.{AreClasses};
-ghost use Rattle.hoist.specs.Hoisted.{is_small, body_plan, each_plan, some_plan, switch_plan};
+ghost use Rattle.hoist.specs.Hoisted.{is_small, is_break, body_plan, each_plan, some_plan, switch_plan};
 ghost use Rattle.hoist.specs.Seen.{plan_seen, span_roles};
 
 use crate::ahead::Plan;
@@ -35,8 +35,9 @@ pub(crate) fn each_plan(
 ) -> Result<Plan, NoMemory>
     requires id { id < length mint.now }
     requires classes { AreClasses mint.now classes.now }
-    ensures { IfOk result (λ x. plan_seen path.now x
+    ensures ok { IfOk result (λ x. plan_seen path.now x
         ≡ each_plan (span_roles classes.now.enc) (type_at mint.now id) path.now (code_seen body.now)) }
+    ensures apart { OnErr result (span_roles classes.now.enc (type_at mint.now id) path.now ≡ is_break → ⊥) }
 {
     match part_role(mint, classes, id, path.as_slice()) {
         Role::Small(k) => match loop_bound(mint, id, path, body)? {
@@ -61,8 +62,9 @@ pub(crate) fn some_plan(
 ) -> Result<Plan, NoMemory>
     requires id { id < length mint.now }
     requires classes { AreClasses mint.now classes.now }
-    ensures { IfOk result (λ x. plan_seen path.now x
+    ensures ok { IfOk result (λ x. plan_seen path.now x
         ≡ some_plan (span_roles classes.now.enc) (type_at mint.now id) path.now (code_seen body.now)) }
+    ensures apart { OnErr result (span_roles classes.now.enc (type_at mint.now id) path.now ≡ is_break → ⊥) }
 {
     match part_role(mint, classes, id, path.as_slice()) {
         Role::Small(k) => Ok(small_plan(some_bound(mint, id, path, body)?, k)),
@@ -81,9 +83,10 @@ pub(crate) fn switch_plan(
 ) -> Result<Plan, NoMemory>
     requires id { id < length mint.now }
     requires classes { AreClasses mint.now classes.now }
-    ensures { IfOk result (λ x. plan_seen path.now x
+    ensures ok { IfOk result (λ x. plan_seen path.now x
         ≡ switch_plan (span_roles classes.now.enc) (type_at mint.now id) path.now
         (cases_seen cases.now last.now)) }
+    ensures apart { OnErr result (span_roles classes.now.enc (type_at mint.now id) path.now ≡ is_break → ⊥) }
 {
     match part_role(mint, classes, id, path.as_slice()) {
         Role::Small(k) => Ok(small_plan(switch_bound(mint, id, path, cases, last)?, k)),

@@ -82,7 +82,7 @@ hoist_op-switch_bodies-requires t c = (
     (
       c.requires.classes,
       switch-taken c.args.classes.now.enc (type_at c.args.mint.now c.args.id) c.args.op.now c.in-Switch.path c.in-Switch.cases
-          c.in-Switch.last c.in_ok-plan-in-Switch.plan c.in-Switch.is c.in_ok-plan-in-Switch.ensures c.requires.taken,
+          c.in-Switch.last c.in_ok-plan-in-Switch.plan c.in-Switch.is c.in_ok-plan-in-Switch.ensures.ok c.requires.taken,
     ),
   ),
 )
@@ -113,7 +113,7 @@ hoist_op-returns-in_ok-push-in-Each t c =
     front-each c.args.classes.now.enc (type_at c.args.mint.now c.args.id) c.args.op.now c.in-Each.path c.in_ok-copy_path-in-Each.field-0
     c.in_ok-copy_path-in-Each-2.field-0 c.in-Each.body c.in_ok-inner-in-Each.inner c.in_ok-plan-in-Each.plan
     c.args.back.now.items c.settle.new.back.items c.push-in-Each.new.self.items c.args.ahead c.in_ok-then-in-Each.then
-    c.in-Each.is c.in_ok-copy_path-in-Each.ensures c.in_ok-copy_path-in-Each-2.ensures c.in_ok-plan-in-Each.ensures
+    c.in-Each.is c.in_ok-copy_path-in-Each.ensures c.in_ok-copy_path-in-Each-2.ensures c.in_ok-plan-in-Each.ensures.ok
     c.in_ok-inner-in-Each.ensures c.in_ok-then-in-Each.ensures c.in_ok-push-in-Each.ensures.items
 
 pub hoist_op-returns-in_ok-push-in-Some : goal.hoist_op-returns-in_ok-push-in-Some
@@ -121,7 +121,7 @@ hoist_op-returns-in_ok-push-in-Some t c =
     front-some c.args.classes.now.enc (type_at c.args.mint.now c.args.id) c.args.op.now c.in-Some.path c.in_ok-copy_path-in-Some.field-0
     c.in_ok-copy_path-in-Some-2.field-0 c.in-Some.body c.in_ok-inner-in-Some.inner c.in_ok-plan-in-Some.plan
     c.args.back.now.items c.settle-in-Some.new.back.items c.push-in-Some.new.self.items c.args.ahead c.in_ok-then-in-Some.then
-    c.in-Some.is c.in_ok-copy_path-in-Some.ensures c.in_ok-copy_path-in-Some-2.ensures c.in_ok-plan-in-Some.ensures
+    c.in-Some.is c.in_ok-copy_path-in-Some.ensures c.in_ok-copy_path-in-Some-2.ensures c.in_ok-plan-in-Some.ensures.ok
     c.in_ok-inner-in-Some.ensures c.in_ok-then-in-Some.ensures c.in_ok-push-in-Some.ensures.items
 
 pub hoist_op-returns-in_ok-push-in-Switch : goal.hoist_op-returns-in_ok-push-in-Switch
@@ -130,7 +130,7 @@ hoist_op-returns-in_ok-push-in-Switch t c =
     c.in_ok-copy_path-in-Switch.field-0 c.in_ok-copy_path-in-Switch-2.field-0 c.in-Switch.cases c.in_ok-bodies-in-Switch.bodies
     c.in-Switch.last c.in_ok-bodies-in-Switch.other c.in_ok-plan-in-Switch.plan
     c.args.back.now.items c.settle-in-Switch.new.back.items c.push-in-Switch.new.self.items c.args.ahead c.in_ok-then-in-Switch.then
-    c.in-Switch.is c.in_ok-copy_path-in-Switch.ensures c.in_ok-copy_path-in-Switch-2.ensures c.in_ok-plan-in-Switch.ensures
+    c.in-Switch.is c.in_ok-copy_path-in-Switch.ensures c.in_ok-copy_path-in-Switch-2.ensures c.in_ok-plan-in-Switch.ensures.ok
     c.in_ok-bodies-in-Switch.ensures c.in_ok-then-in-Switch.ensures c.in_ok-push-in-Switch.ensures.items
 
 pub hoist_ops-hoist_op-requires : goal.hoist_ops-hoist_op-requires
