@@ -1,6 +1,6 @@
 //! The replies that refuse a request.
 
-ghost use Rattle.std.specs.Prelude.{◌≡◌, ◌≤◌, ◌+◌, ◌++◌, [], Some, OnErr, OnOk, length};
+ghost use Rattle.std.specs.Prelude.{◌≡◌, ◌≤◌, ◌+◌, ◌++◌, [], Some, OnErr, OnOk, length, nat_lt};
 ghost use Rattle.raw_buf.specs.Buf.{NoneFell};
 ghost use Rattle.giop_head.specs.Header.{IsMinor};
 ghost use Rattle.giop_head.specs.Printed.{IsOwn, addressing_octets, header_octets, long_octets, refusal_octets, short_octets, status_octets, then_first, then_last, then_long, then_short, then_string, with_size};
@@ -85,10 +85,17 @@ fn make_room(id: &[u8], buf: &mut SendBuf) -> Result<(), NoMemory>
     ensures err { OnErr result (buf.new ≡ buf.old) }
     ensures spent { NoneFell buf.old.spent buf.new.spent }
 {
-    if id.len() > LONGEST_ID {
+    if is_too_long(id) {
         return Err(NoMemory);
     }
     buf.ensure(id.len() + 64)
+}
+
+/// Whether the message of a repository id would have no size of 32 bits.
+fn is_too_long(id: &[u8]) -> bool
+    ensures { result ≡ nat_lt 4294967232 (length id.now) }
+{
+    id.len() > LONGEST_ID
 }
 
 /// Appends octets to what was put.
