@@ -1,6 +1,6 @@
 //! The nodes of types.
 
-ghost use Rattle.std.specs.Prelude.{[], ◌∷◌, ◌++◌, length, IfOk, IfErr, OnOk, IsTrue, None};
+ghost use Rattle.std.specs.Prelude.{◌≡◌, [], ◌∷◌, ◌++◌, length, IfOk, IfErr, OnOk, IsTrue, None};
 ghost use Rattle.std.specs.Option.{option_map};
 ghost use Rattle.aoi.specs.Sound.{names_of};
 ghost use Rattle.aoi.specs.Shapes.{seen, members, array, arrayed, structure, optional, enumeration, arms_seen, default_of};
