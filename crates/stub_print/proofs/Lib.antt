@@ -4,7 +4,7 @@
 pub mod Numerals
 -- * Texts put one after the other
 pub mod Putting
--- Octets in pieces, in hexadecimal digits
+-- * Octets in pieces, in hexadecimal digits
 pub mod Hexed
 -- * What octets tell: lines of words, and in words numbers, paths, orders and octets
 pub mod Read

@@ -110,7 +110,8 @@ pub(crate) fn put_pieces(
 {
     put_hex(out, front)?;
     put_hex_digits(out, piece)?;
-    put_hex_digits(out, rest)
+    put_hex_digits(out, rest)?;
+    Ok(())
 }
 
 fn put_hex_digits(out: &mut Octets, octets: &[u8]) -> Result<(), NoMemory>
