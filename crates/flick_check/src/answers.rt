@@ -5,25 +5,28 @@ ghost use Rattle.flick_check.specs.Checked.{verdict_words, answer_line, last_lin
 ghost use Rattle.flick_check.specs.Checked as checked;
 
 use crate::files::{feeds, passed};
-use crate::names::{op_of, request_of};
+use crate::names::{op_of, request_of, spend_search};
 use cast_stub::SendCode;
 use flick_engine::Engine;
 use itoa::Buffer;
 use kit_base::{NoMemory, Octets};
 use std::alloc::Global;
 use stub_check::{Verdict, check};
+use stub_places::steps_of;
 use stub_read::{Stub, StubErr, read_stub};
 
 /// The answers to the texts of a file of stubs, a line each: whether a text of code that sends, whoever made it, sends
-/// the messages of the requests of the operation that it names.
+/// the messages of the requests of the operation that it names. It gives up, as out of memory, where these take more steps
+/// than a text of as many octets is given.
 pub fn check_stubs(alloc: Global, engine: &Engine, text: &[u8]) -> Result<Octets, NoMemory>
     ensures { IfOk result (λ a. IsChecked engine.now text.now a) }
 {
+    let mut left = steps_of(text.len());
     let mut out = Octets::new(alloc);
     let mut rest = text;
     let mut line = 1;
     'parts: loop {
-        let Some(used) = take_part(alloc, engine, rest, &mut out)? else {
+        let Some(used) = take_part(alloc, engine, rest, &mut left, &mut out)? else {
             put_last(&mut out, line, rest)?;
             return Ok(out);
         };
@@ -47,6 +50,7 @@ fn take_part(
     alloc: Global,
     engine: &Engine,
     text: &[u8],
+    left: &mut u64,
     out: &mut Octets,
 ) -> Result<Option<usize>, NoMemory>
     ensures taken { IfOk result (λ o. IsTakenOrNot engine.now text.now o out.old out.new) }
@@ -57,7 +61,7 @@ fn take_part(
     }
     match read_stub(alloc, text) {
         Ok(stub) => {
-            put_answer(alloc, engine, &stub, out)?;
+            put_answer(alloc, engine, &stub, left, out)?;
             Ok(Some(stub.used))
         }
         Err(StubErr::Text) => Ok(None),
@@ -66,14 +70,21 @@ fn take_part(
 }
 
 /// Puts the answer to a stub.
-fn put_answer(alloc: Global, engine: &Engine, stub: &Stub, out: &mut Octets) -> Result<(), NoMemory>
+fn put_answer(
+    alloc: Global,
+    engine: &Engine,
+    stub: &Stub,
+    left: &mut u64,
+    out: &mut Octets,
+) -> Result<(), NoMemory>
     ensures { OnOk result (IsAnswerPut engine.now stub.now.name stub.now.code
         (checked.op_of engine.now.binding stub.now.name) out.old out.new) }
 {
     let name = stub.name.as_slice();
+    spend_search(left, engine)?;
     match op_of(engine.bound(), name)? {
         Some(op) => {
-            let verdict = verdict_of(alloc, engine, op, &stub.code)?;
+            let verdict = verdict_of(alloc, engine, op, &stub.code, left)?;
             put_line(out, words_of(verdict), name)
         }
         None => put_line(out, b"! op ", name),
@@ -81,7 +92,13 @@ fn put_answer(alloc: Global, engine: &Engine, stub: &Stub, out: &mut Octets) -> 
 }
 
 /// What is said of a code beside the code of an operation.
-fn verdict_of(alloc: Global, engine: &Engine, op: u32, code: &SendCode) -> Result<Verdict, NoMemory>
+fn verdict_of(
+    alloc: Global,
+    engine: &Engine,
+    op: u32,
+    code: &SendCode,
+    left: &mut u64,
+) -> Result<Verdict, NoMemory>
     requires { op < length engine.now.binding.ops }
     ensures { IfOk result (λ v. IsVerdictOf engine.now op code.now v) }
 {
@@ -92,6 +109,7 @@ fn verdict_of(alloc: Global, engine: &Engine, op: u32, code: &SendCode) -> Resul
         code,
         engine.bound().mint(),
         node,
+        left,
     )
 }
 

@@ -11,6 +11,10 @@ use flick_engine::Engine;
 use kit_base::NoMemory;
 use mint::table::NodeId;
 use pres::{Bound, Op};
+use stub_places::spend;
+
+/// The names that are compared in a step.
+const NAMES: usize = 32;
 
 /// The name of an interface.
 fn interface_name(interfaces: &[Interface], k: u32) -> &[u8]
@@ -64,6 +68,12 @@ fn place_of(interfaces: &[Interface], ops: &[Op], name: &[u8]) -> Option<usize>
         }
     }
     None
+}
+
+/// Takes the steps in which an operation is sought.
+pub(crate) fn spend_search(left: &mut u64, engine: &Engine) -> Result<(), NoMemory> {
+    let names = engine.bound().ops().as_slice().len();
+    spend(left, (names / NAMES) as u64)
 }
 
 /// The number of the first operation that has a full name. More operations than numbers are more than memory holds.

@@ -7,6 +7,7 @@ use kit_base::{NoMemory, Octets};
 use mint::table::{Mint, NodeId};
 use std::alloc::Global;
 use stub_compare::compare_calls::find_spots;
+use stub_places::steps_of;
 use stub_rooms::covers_code;
 
 /// No search takes more steps.
@@ -41,7 +42,8 @@ pub fn lack_of(
     let Some(stub) = stub_in(alloc, part.text)? else {
         return Ok(None);
     };
-    let Some(spots) = find_spots(alloc, mint, id, &stub.code)? else {
+    let mut left = steps_of(part.text.len());
+    let Some(spots) = find_spots(alloc, mint, id, &stub.code, &mut left)? else {
         return Ok(None);
     };
     let cuts = cuts_of(alloc, part.text)?;
@@ -77,7 +79,12 @@ impl Roomed<'_> {
         put_ends(&mut text, open)?;
         text.append(self.tail())?;
         match stub_in(alloc, text.as_slice())? {
-            Some(stub) => covers_code(alloc, &stub.code, self.mint, self.id, self.spots),
+            Some(stub) => {
+                let mut left = steps_of(text.len());
+                covers_code(
+                    alloc, &stub.code, self.mint, self.id, self.spots, &mut left,
+                )
+            }
             None => Ok(false),
         }
     }

@@ -27,13 +27,15 @@ pub enum Verdict {
     Cover,
 }
 
-/// What is said of a code beside one that is kept, over a node of a table.
+/// What is said of a code beside one that is kept, over a node of a table. It gives up, as out of memory, where no steps
+/// are left.
 pub fn check(
     alloc: Global,
     kept: &SendCode,
     code: &SendCode,
     mint: &Mint,
     id: NodeId,
+    left: &mut u64,
 ) -> Result<Verdict, NoMemory>
     requires kept { IsCovered (type_at mint.now id) 0 kept.now }
     ensures verdict { IfOk result (IsVerdict mint.now id kept.now code.now) }
@@ -42,24 +44,30 @@ pub fn check(
         → IsAsGood (type_at mint.now id) kept.now code.now) }
 {
     crate::laws::a_yes_is_as_good();
-    if is_same_code(alloc, kept, code)? {
+    if is_same_code(alloc, kept, code, left)? {
         return Ok(Verdict::Yes);
     }
-    if !have_one_flat(alloc, kept, code, mint, id)? {
+    if !have_one_flat(alloc, kept, code, mint, id, left)? {
         return Ok(Verdict::Meaning);
     }
-    if !covers(alloc, code, mint, id)? {
+    if !covers(alloc, code, mint, id, left)? {
         return Ok(Verdict::Cover);
     }
     Ok(Verdict::Yes)
 }
 
 /// Whether a code over a node has ensured what it appends.
-fn covers(alloc: Global, code: &SendCode, mint: &Mint, id: NodeId) -> Result<bool, NoMemory>
+fn covers(
+    alloc: Global,
+    code: &SendCode,
+    mint: &Mint,
+    id: NodeId,
+    left: &mut u64,
+) -> Result<bool, NoMemory>
     ensures { IfOk result (λ b. b ≡ covers mint.now id code.now) }
 {
-    match find_spots(alloc, mint, id, code)? {
-        Some(spots) => covers_code(alloc, code, mint, id, spots.as_slice()),
+    match find_spots(alloc, mint, id, code, left)? {
+        Some(spots) => covers_code(alloc, code, mint, id, spots.as_slice(), left),
         None => Ok(false),
     }
 }

@@ -10,12 +10,13 @@ ghost use Rattle.stub_compare.specs.CompareFlats.{HaveOneFlat};
 use crate::compare_calls::find_spots;
 use crate::compare_items::put_ops;
 use crate::compare_sets::{every, only};
+use crate::compare_steps::steps_in;
 use crate::compare_text::{Numbers, put_number};
 use cast_stub::{SendCode, SendOps, SendSubs};
 use kit_base::NoMemory;
 use mint::table::{Mint, NodeId};
 use std::alloc::Global;
-use stub_places::Spot;
+use stub_places::{Spot, spend};
 
 /// Puts what is left of a code of a list, from all residues, where its node is known.
 fn put_body(
@@ -66,10 +67,12 @@ fn flat_text(
     code: &SendCode,
     mint: &Mint,
     id: NodeId,
+    left: &mut u64,
 ) -> Result<Option<Numbers>, NoMemory>
     ensures { IfOk result (λ o. o ≡ option_map (λ f. flats_text f []) (flat mint.now id code.now)) }
 {
-    let found = find_spots(alloc, mint, id, code)?;
+    spend(left, steps_in(code).flat)?;
+    let found = find_spots(alloc, mint, id, code, left)?;
     let Some(spots) = found else {
         return Ok(None);
     };
@@ -79,6 +82,7 @@ fn flat_text(
         return Ok(None);
     };
     let told = put_list(alloc, mint, &code.subs, spots.as_slice(), &mut out)?;
+    spend(left, (out.len() / 64) as u64)?;
     if told { Ok(Some(out)) } else { Ok(None) }
 }
 
@@ -88,21 +92,22 @@ fn are_same(a: &Numbers, b: &Numbers) -> bool
     a.as_slice() == b.as_slice()
 }
 
-/// Whether a code has a flat, and the kept one has the same.
+/// Whether a code has a flat, and the kept one has the same. It gives up, as out of memory, where no steps are left.
 pub fn have_one_flat(
     alloc: Global,
     kept: &SendCode,
     code: &SendCode,
     mint: &Mint,
     id: NodeId,
+    left: &mut u64,
 ) -> Result<bool, NoMemory>
     ensures { IfOk result (λ same. (same ≡ true) ↔ HaveOneFlat mint.now id kept.now code.now) }
 {
-    let kept_text = flat_text(alloc, kept, mint, id)?;
+    let kept_text = flat_text(alloc, kept, mint, id, left)?;
     let Some(ours) = kept_text else {
         return Ok(false);
     };
-    let code_text = flat_text(alloc, code, mint, id)?;
+    let code_text = flat_text(alloc, code, mint, id, left)?;
     let Some(theirs) = code_text else {
         return Ok(false);
     };

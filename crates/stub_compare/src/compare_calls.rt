@@ -6,11 +6,12 @@ ghost use Rattle.stub_flat.specs.Places.{node_of};
 ghost use Rattle.stub_flat.specs.Flat.{all_noted, calls, calls_of_known, noted, spots, way_calls};
 ghost use Rattle.stub_compare.specs.CompareTold.{IsNotedThrough, IsTold, body_calls};
 
+use crate::compare_steps::steps_in;
 use cast_stub::{SendCases, SendCode, SendOp, SendOps, SendSubs};
 use kit_base::NoMemory;
 use mint::table::{Mint, NodeId};
 use std::alloc::Global;
-use stub_places::{Spot, arm_spot_at, element_at, present_at, rest_spot_at, spot_at};
+use stub_places::{Spot, arm_spot_at, element_at, present_at, rest_spot_at, spend, spot_at};
 
 /// Notes at which node a code is called, if that is one node.
 fn note(nodes: &mut Vec<Spot>, k: u32, spot: Spot) -> bool
@@ -154,22 +155,26 @@ fn next_round(
     if told { Ok(Some(next)) } else { Ok(None) }
 }
 
-/// The node at which each code of the list is called, from the code itself on.
+/// The node at which each code of the list is called, from the code itself on. Each round takes a step for each operation.
 pub fn find_spots(
     alloc: Global,
     mint: &Mint,
     id: NodeId,
     code: &SendCode,
+    left: &mut u64,
 ) -> Result<Option<Vec<Spot>>, NoMemory>
     ensures found { IfOk result (λ found. option_map (λ v. v.items) found
         ≡ spots mint.now (Some id) (code_seen code.now.ops) (map code_seen code.now.subs)) }
     ensures len { IfOk result (λ found. IfSome found (λ v. vec_len v ≡ length code.now.subs)) }
 {
+    let steps = steps_in(code).calls;
+    spend(left, steps)?;
     let mut nodes = unknown(alloc, code.subs.len())?;
     if !note_ops(mint, Some(id), &code.ops, &mut nodes) {
         return Ok(None);
     }
     for _ in 0..code.subs.len() {
+        spend(left, steps)?;
         let round = next_round(alloc, mint, &code.subs, nodes.as_slice())?;
         let Some(next) = round else {
             return Ok(None);

@@ -8,6 +8,7 @@ mod compare_items;
 mod compare_leaves;
 mod compare_octets;
 mod compare_sets;
+mod compare_steps;
 mod compare_tables;
 mod compare_text;
 

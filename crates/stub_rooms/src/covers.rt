@@ -11,56 +11,13 @@ use crate::covers_lap::Walk;
 use crate::covers_marks::every;
 use crate::covers_run::run;
 use crate::rooms::{bare, only_room};
-use cast_stub::{SendCode, SendOp, SendOps};
+use cast_stub::{SendCode, SendOps};
 use kit_base::NoMemory;
 use mint::table::{Mint, NodeId};
 use std::alloc::Global;
 
 /// How deep blocks may nest.
 const DEEPEST: u32 = 512;
-
-/// How many runs of an operation there are for each operation of a code.
-const RUNS_EACH: u64 = 64;
-
-/// How many there are besides.
-const RUNS_MORE: u64 = 2_000_000;
-
-/// How many operations there are, in bodies too.
-#[cycle(weigh)]
-fn weigh(ops: &SendOps) -> u64 {
-    let mut sum: u64 = 0;
-    for op in ops.as_slice() {
-        sum = sum.saturating_add(weigh_op(op));
-    }
-    sum
-}
-
-#[cycle(weigh)]
-fn weigh_op(op: &SendOp) -> u64 {
-    match op {
-        SendOp::Each(_, body) | SendOp::Some(_, body) => weigh(body).saturating_add(1),
-        SendOp::Switch(_, cases, last) => {
-            let mut sum: u64 = match last {
-                Some(body) => weigh(body),
-                None => 0,
-            };
-            for case in cases.as_slice() {
-                sum = sum.saturating_add(weigh(&case.1));
-            }
-            sum.saturating_add(1)
-        }
-        _ => 1,
-    }
-}
-
-/// How many runs of an operation a code is given.
-fn allowed(code: &SendCode) -> u64 {
-    let mut sum = weigh(&code.ops);
-    for ops in code.subs.as_slice() {
-        sum = sum.saturating_add(weigh(ops));
-    }
-    sum.saturating_mul(RUNS_EACH).saturating_add(RUNS_MORE)
-}
 
 /// Whether a code is not refused from position 0, without room.
 fn is_run(ops: &SendOps, id: NodeId, walk: &Walk<'_>, left: &mut u64) -> Result<bool, NoMemory>
@@ -126,14 +83,14 @@ fn are_run(
 }
 
 /// Whether a code over a node has ensured what it appends, from position 0, where each code of its list is called at these
-/// nodes. It gives up, as out of memory, where blocks nest more than 512 deep, and where it would run more than 64
-/// operations for each operation of the code and 2,000,000 besides.
+/// nodes. It gives up, as out of memory, where blocks nest more than 512 deep, and where no steps are left.
 pub fn covers_code(
     alloc: Global,
     code: &SendCode,
     mint: &Mint,
     id: NodeId,
     spots: &[Option<NodeId>],
+    left: &mut u64,
 ) -> Result<bool, NoMemory>
     ensures { IfOk result (λ b. b ≡ covers_at mint.now id code.now (Some spots.now)) }
 {
@@ -142,10 +99,9 @@ pub fn covers_code(
         mint,
         depth: DEEPEST,
     };
-    let mut left = allowed(code);
-    let runs = is_run(&code.ops, id, &walk, &mut left)?;
+    let runs = is_run(&code.ops, id, &walk, left)?;
     if !runs {
         return Ok(false);
     }
-    are_run(code.subs.as_slice(), spots, &walk, &mut left)
+    are_run(code.subs.as_slice(), spots, &walk, left)
 }

@@ -53,14 +53,3 @@ pub(crate) fn place_at(path: &Path, spot: Option<NodeId>, walk: &Walk<'_>) -> Op
 {
     spot_at(walk.mint, path.as_slice(), spot)
 }
-
-/// Takes one of the runs of an operation that are left.
-pub(crate) fn spend(left: &mut u64) -> Result<(), NoMemory> {
-    match left.checked_sub(1) {
-        Some(less) => {
-            *left = less;
-            Ok(())
-        }
-        None => Err(NoMemory),
-    }
-}

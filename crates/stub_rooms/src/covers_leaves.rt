@@ -10,14 +10,15 @@ ghost use Rattle.stub_cover.specs.Rooms.{Rooms as AllRooms};
 ghost use Rattle.stub_rooms.specs.RoomsShown.{Shown, each_of};
 ghost use Rattle.stub_rooms.specs.CoversLap.{nodes, Leads, leaves_of, reach_of};
 
-use crate::covers_lap::{Lap, Walk, place_at, spend};
+use crate::covers_lap::{Lap, Walk, place_at};
 use crate::covers_marks::{Marks, aligned, every, is_within, moved, none, reached, size, sum};
 use crate::rooms::Rooms;
 use cast_stub::{Path, SendCases, SendOp, SendOps};
 use kit_base::NoMemory;
 use mint::table::NodeId;
 use stub_places::{
-    arm_spot_at, element_at, is_width, present_at, rest_spot_at, row_kind_at, width_of,
+    arm_spot_at, element_at, is_width, present_at, rest_spot_at, row_kind_at, spend_op, spend_ways,
+    width_of,
 };
 
 /// Behind operations over a place.
@@ -34,7 +35,7 @@ fn leaves(
     let inner = walk.deeper()?;
     let mut here = *marks;
     for op in ops.as_slice() {
-        spend(left)?;
+        spend_op(left, op)?;
         here = leave_op(op, spot, &here, &inner, left)?;
     }
     Ok(here)
@@ -117,6 +118,7 @@ fn leave_ways(
     ensures { IfOk result (λ m. let cs = cases_seen cases.now last.now in
         Shown (ways_leave (nodes walk.now) (node_of (nodes walk.now) place) cs cs) marks.now m) }
 {
+    spend_ways(left, walk.mint, place, cases)?;
     let mut all = none();
     for case in cases.as_slice() {
         let spot = arm_spot_at(walk.mint, place, &case.0);

@@ -5,9 +5,10 @@ ghost use Rattle.cast_stub.specs.Block.{Block, op_seen, code_seen, cases_seen};
 ghost use Rattle.stub_cover.specs.Covers.{is_plain, are_plain};
 ghost use Rattle.stub_rooms.specs.CoversLap.{is_plain_lap};
 
-use crate::covers_lap::{Lap, Walk, spend};
+use crate::covers_lap::{Lap, Walk};
 use cast_stub::{SendCases, SendOp, SendOps};
 use kit_base::NoMemory;
+use stub_places::spend_op;
 
 /// Whether operations neither ensure nor call, nor does a body of theirs.
 #[cycle(plain)]
@@ -17,7 +18,7 @@ fn is_plain(ops: &SendOps, walk: &Walk<'_>, left: &mut u64) -> Result<bool, NoMe
 {
     let inner = walk.deeper()?;
     for op in ops.as_slice() {
-        spend(left)?;
+        spend_op(left, op)?;
         let plain = is_plain_op(op, &inner, left)?;
         if !plain {
             return Ok(false);

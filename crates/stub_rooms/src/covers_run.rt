@@ -9,7 +9,7 @@ ghost use Rattle.stub_rooms.specs.RoomsShown.{Follows, mark_at};
 ghost use Rattle.stub_rooms.specs.CoversStanding.{Steps, maybe_loop};
 ghost use Rattle.stub_rooms.specs.CoversLap.{nodes, turn_of, reach_of, is_plain_lap};
 
-use crate::covers_lap::{Lap, Walk, place_at, spend};
+use crate::covers_lap::{Lap, Walk, place_at};
 use crate::covers_leaves::reach;
 use crate::covers_marks::{Marks, every, mark};
 use crate::covers_plain::is_plain_lap;
@@ -24,7 +24,7 @@ use crate::turns::{turn_on, turning_from};
 use cast_stub::{Path, SendCases, SendOp, SendOps};
 use kit_base::NoMemory;
 use mint::table::NodeId;
-use stub_places::{arm_spot_at, present_at, rest_spot_at};
+use stub_places::{arm_spot_at, present_at, rest_spot_at, spend, spend_op, spend_ways};
 
 /// The rooms behind operations over a place, from a state without a credit.
 #[cycle(run)]
@@ -44,7 +44,7 @@ pub(crate) fn run(
         unit: None,
     };
     for op in ops.as_slice() {
-        spend(left)?;
+        spend_op(left, op)?;
         let goes = run_op(op, spot, &mut state, &inner, left)?;
         if !goes {
             return Ok(None);
@@ -128,6 +128,7 @@ fn run_ways(
     ensures { IfOk result (λ x. let cs = cases_seen cases.now last.now in
         Follows (run_ways (nodes walk.now) (node_of (nodes walk.now) place) cs cs) rooms.now x) }
 {
+    spend_ways(left, walk.mint, place, cases)?;
     let mut low = no_rooms();
     for case in cases.as_slice() {
         let spot = arm_spot_at(walk.mint, place, &case.0);
@@ -176,7 +177,7 @@ fn run_lap(
 {
     match lap {
         Lap::Octets(width) => {
-            spend(left)?;
+            spend(left, 1)?;
             Ok(took(width, rooms))
         }
         Lap::Body(body, spot) => run(body, spot, rooms, walk, left),
