@@ -36,7 +36,8 @@ fn plus(a: Option<u32>, b: Option<u32>) -> Result<Option<u32>, NoMemory>
 /// So many times, by the greatest count.
 fn times(count: Count, turn: Option<u32>) -> Result<Option<u32>, NoMemory>
     ensures ok { IfOk result (λ n. n ≡ times (most count) turn) }
-    ensures err { OnErr result ((m : ℕ) × (n : ℕ) × (most count ≡ Some m) × (turn ≡ Some n) × (2 ^ 32 ≤ m * n)) }
+    ensures err { OnErr result
+        ((m : ℕ) × (n : ℕ) × (most count ≡ Some m) × (turn ≡ Some n) × (2 ^ 32 ≤ m * n)) }
 {
     let (Count::Exactly(m) | Count::AtMost(m)) = count else {
         return Ok(None);
@@ -342,11 +343,8 @@ fn is_same(m: &i128, n: &i128) -> bool
 fn greater(a: Option<u32>, b: Option<u32>) -> Option<u32>
     ensures { result ≡ greater a b }
 {
-    match a {
-        Some(m) => match b {
-            Some(n) => Some(m.max(n)),
-            None => None,
-        },
-        None => None,
+    match (a, b) {
+        (Some(m), Some(n)) => Some(m.max(n)),
+        _ => None,
     }
 }

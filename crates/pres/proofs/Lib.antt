@@ -34,7 +34,7 @@ pub mod Building
 pub mod Existing
 -- * Items that are found by their names and by their numbers, by induction on the items
 pub mod Tabled
--- The names of fields, by induction on the fields
+-- * The names of fields, by induction on the fields
 pub mod Fielded
 -- * Exceptions that are found by their names, by induction on the exceptions and on the operations
 pub mod Found

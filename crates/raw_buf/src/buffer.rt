@@ -18,9 +18,8 @@ use wire_def::Order;
 
 /// A buffer for one message at a time.
 ///
-/// `ensure` makes room, `put` and `put_const` store at an offset from the cursor inside that room,
-/// and `advance` moves the cursor over it. The memory is initialised when it grows and is kept
-/// when the buffer is cleared.
+/// `ensure` makes room, `put` and `put_const` store at an offset from the cursor inside that room, and `advance` moves
+/// the cursor over it. The memory is initialised when it grows and is kept when the buffer is cleared.
 #[derive(Drop)]
 pub struct SendBuf {
     memory: RawMem,
@@ -100,14 +99,11 @@ impl SendBuf {
     /// ensured.
     #[inline(always)]
     pub fn put(&mut self, off: usize, width: usize, order: Order, v: u64)
-        // What is put.
         requires width { IsWidth width }
         requires within { off + width ≤ length self.old.front }
         requires fits { v < 256 ^ width }
-        // What is written.
         ensures done { self.new.done ≡ self.old.done }
         ensures front { self.new.front ≡ written self.old.front off (in_order order width v) }
-        // What it costs.
         ensures tally { self.new.tally ≡ stored self.old.tally }
         ensures spent { self.new.spent ≡ stored self.old.spent }
     {
@@ -128,8 +124,7 @@ impl SendBuf {
         self.count_store();
     }
 
-    /// Stores octets in three pieces, one behind the other, at an offset from the cursor, in the space that is ensured.
-    /// It counts as one store.
+    /// Stores octets in three pieces, one behind the other, as one store of `put_const`.
     #[tactic(auto, using(crate::proofs::Pieced::written_three))]
     pub fn put_pieces(&mut self, off: usize, front: &[u8], piece: &[u8], rest: &[u8])
         requires { off + length (front.now ++ (piece.now ++ rest.now)) ≤ length self.old.front }
