@@ -6,3 +6,5 @@ mod Rows
 pub mod Keyed
 -- What holds of everything that names stand for, by induction on the names
 pub mod Standing
+-- * Names by prefixes and own parts: what they stand for is what full names do, by induction on the names
+mod Parting

@@ -2,3 +2,4 @@ pub mod Around
 pub mod Names
 pub mod Finding
 pub mod Consts
+pub mod Parted

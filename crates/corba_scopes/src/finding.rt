@@ -16,7 +16,7 @@ impl Scopes {
         ensures { IfOk result (λ e. e ≡ entry_at self.now (scope.now ++ name.now)) }
     {
         let full = full_name(alloc, scope, name)?;
-        match self.table().meaning(full.as_slice()) {
+        match self.table().meaning(alloc, full.as_slice())? {
             Some(meaning) => Ok(Some(Entry {
                 name: full,
                 meaning,

@@ -8,6 +8,8 @@ mod consts;
 mod finding;
 mod meanings;
 mod orders;
+mod prefixes;
+mod scoped;
 mod state;
 
 pub use around::{Env, full_name, innermost, inside, of_file, prefix_of};

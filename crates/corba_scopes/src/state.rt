@@ -9,8 +9,8 @@ use crate::around::full_name;
 use crate::clashes::refuse_fault;
 use crate::meanings::Meaning;
 use crate::orders::{BaseOrder, BaseOrders};
+use crate::scoped::Scoped;
 use aoi::{NameErr, NameFault};
-use idl_names::{Names, Table};
 use kit_base::NoMemory;
 use std::alloc::Global;
 use std::marker::Model;
@@ -26,20 +26,21 @@ fn lower(alloc: Global, name: &[u8]) -> Result<Vec<u8>, NoMemory>
 #[derive(Drop)]
 pub struct Scopes {
     /// Full names, each with what it stands for.
-    table: Table<Meaning>,
+    table: Scoped<Meaning>,
     /// The same names with the last identifier in lower case.
-    folded: Names,
+    folded: Scoped<()>,
     /// The lines of interfaces.
     lines: BaseOrders,
 }
 
 impl Model for Scopes {
     ghost use Rattle.corba_scopes.specs.Names.{Names};
+    ghost use Rattle.std.specs.Prelude.{map};
     ghost use Rattle.std.specs.Coded.{codes};
 
     ghost Value = { Names };
 
-    ghost view = { λ s. record { meanings = s.table; folded = s.folded; lines = s.lines } };
+    ghost view = { λ s. record { meanings = s.table; folded = map (λ e. e.0) s.folded; lines = s.lines } };
 }
 
 impl Scopes {
@@ -48,14 +49,14 @@ impl Scopes {
         ensures { result ≡ nothing }
     {
         Scopes {
-            table: Table::new(alloc),
-            folded: Names::new(alloc),
+            table: Scoped::new(alloc),
+            folded: Scoped::new(alloc),
             lines: BaseOrders::new(alloc),
         }
     }
 
     /// The names with what they stand for.
-    pub(crate) fn table(&self) -> &Table<Meaning>
+    pub(crate) fn table(&self) -> &Scoped<Meaning>
         ensures { result.now ≡ self.now.meanings }
     {
         &self.table
@@ -78,11 +79,11 @@ impl Scopes {
         ensures { IfOk result (λ fault. fault ≡ clash self.now scope.now name.now) }
     {
         let full = full_name(alloc, scope, name)?;
-        if self.table.has(full.as_slice()) {
+        if self.table.has(alloc, full.as_slice())? {
             return Ok(Some(NameFault::Twice));
         }
         let small = full_name(alloc, scope, lower(alloc, name)?.as_slice())?;
-        if self.folded.has(small.as_slice()) {
+        if self.folded.has(alloc, small.as_slice())? {
             return Ok(Some(NameFault::CaseClash));
         }
         Ok(None)
@@ -116,7 +117,7 @@ impl Scopes {
         let small = full_name(alloc, scope, lower(alloc, name)?.as_slice())?;
         let full = full_name(alloc, scope, name)?;
         self.table.declare(alloc, full.as_slice(), meaning)?;
-        self.folded.push(alloc, small.as_slice())?;
+        self.folded.declare(alloc, small.as_slice(), ())?;
         Ok(())
     }
 
