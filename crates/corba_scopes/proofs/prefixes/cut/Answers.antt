@@ -1,4 +1,4 @@
-use Rattle.std.proofs.Common.{◌≡◌, ◌≤◌, ◌+◌, ◌-◌, length, sym, ◌∙◌, arith, zero, ap}
+use Rattle.std.proofs.Common.{◌≡◌, ◌+◌, ◌-◌, sym, ◌∙◌, arith, zero, ap}
 use Rattle.corba_scopes.specs.Parted.{cut_within}
 use Rattle.corba_scopes.proofs.Parting.{cut_before, cut_here}
 use Rattle.corba_scopes.proofs.prefixes.cut.Goals as goal
