@@ -21,7 +21,7 @@ WHATEVER = """
 |---|---|
 | every public call returns, and does nothing undefined | each function is proved to be safe and to end, at each call that meets its conditions; `flick` has none |
 | the status is 8 exactly where more than the greatest input was taken, as may be of an input without an end | `more`, `at_most` |
-| no store or load leaves what was ensured or tested before | conditions of `SendBuf::put`, `put_const`, `advance`, `align`, `row_copy`, `row_swap`, `patch4`, `RecvView::load`, `take`, `row`, proved at each call |
+| no store or load leaves what was ensured or tested before | conditions of `SendBuf::put`, `put_const`, `put_pieces`, `advance`, `align`, `row_copy`, `row_swap`, `patch4`, `RecvView::load`, `take`, `row`, proved at each call |
 | a refused `ensure`, `push` or `add` changes nothing, and after a refused `marshal` the buffer is empty | `err` of `SendBuf::ensure`, `Listed::push`, `Mint::add`, `Engine::marshal` |
 | after an error a reader of lines answers the same error | `Lines::next`, `again` |
 | a failed source, sink or shelf is reported only where its count of faults rose, and where it rose, unless it stands at 2^64 - 1 | `source`, `sink`, `shelf`; `source_reported`, `sink_reported`, `shelf_reported` of `flick` |
