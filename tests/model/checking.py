@@ -11,7 +11,7 @@ from stub_texts import NoStub, Reading
 LONGEST = 8_388_608
 BEGINS = ("send ", "recv ")
 UNKNOWN = "yes or cover"  # of a text whose runs are too many for the model
-MANY = 500_000  # runs of operations: a text that takes more may be out of memory
+MANY = 500_000  # runs of operations: a file whose texts take more may be out of memory
 
 
 def refusal_of(octets):
@@ -38,10 +38,6 @@ class Checking:
         if place not in self.flats:
             self.flats[place] = flat_or_none(self.requests[place].nodes, self.requests[place].id, self.own(place))
         return self.flats[place]
-
-    def is_dear(self):
-        """Whether what was judged last may be out of memory."""
-        return self.runs > MANY
 
     def verdict(self, stub):
         """What is said of a stub before its name."""
@@ -87,6 +83,7 @@ class Checking:
                     raise NoStub("no stub begins")
                 stub = reading.stub()
             except NoStub:
+                self.runs = 0
                 yield None, f"! text {place + 1}"
                 return
             place = reading.place

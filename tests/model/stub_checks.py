@@ -325,7 +325,7 @@ def is_plain(code):
 
 class Rooms(Places):
     """Runs of code with rooms. What a body makes of rooms is kept; `runs` counts the runs of operations that are made, and
-    `all_runs` those of one who keeps nothing, but ends turns where rooms come back."""
+    `all_runs` those of one who keeps nothing, but ends turns where rooms come back, and two for each case that is sought."""
 
     def __init__(self, nodes):
         super().__init__(nodes)
@@ -375,7 +375,9 @@ class Rooms(Places):
                 rooms, credit = least_of(rooms, self.run(present(nodes, spot_at(nodes, spot, words[0])), body, rooms)), None
             elif word == "switch":
                 ways, credit = NOWHERE, None
-                for _, code_, at in bodies_of(nodes, spot_at(nodes, spot, words[0]), *body):
+                bodies = bodies_of(nodes, spot_at(nodes, spot, words[0]), *body)
+                self.all_runs += 2 * len(bodies)
+                for _, code_, at in bodies:
                     ways = least_of(ways, self.run(at, code_, rooms))
                 rooms = ways
             elif word == "call":
