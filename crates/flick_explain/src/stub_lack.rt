@@ -81,9 +81,7 @@ impl Roomed<'_> {
         match stub_in(alloc, text.as_slice())? {
             Some(stub) => {
                 let mut left = steps_of(text.len());
-                covers_code(
-                    alloc, &stub.code, self.mint, self.id, self.spots, &mut left,
-                )
+                covers_code(alloc, &stub.code, self.mint, self.id, self.spots, &mut left)
             }
             None => Ok(false),
         }
