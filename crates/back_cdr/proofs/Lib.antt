@@ -22,3 +22,5 @@ pub mod Picking
 pub mod Raising
 -- * A head is sent as one that a body follows exactly where octets follow it
 pub mod Following
+-- * A number that is found by a tree, or one by one, is that among the names
+pub mod Listed
