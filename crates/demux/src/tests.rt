@@ -38,7 +38,9 @@ fn found(demux: &Demux, names: &SharedNames) -> u32 {
 fn each_of_16640_names_is_found_by_one_read_a_word(rt: HostRuntime) -> Result<(), Fail> {
     let names = alike(&rt, 16_640)?;
     assert!(rt; names.len() == 16_641);
-    let demux = Demux::new(rt.alloc(), alike(&rt, 16_640)?)?;
+    let given = alike(&rt, 16_640)?;
+    assert!(rt; given.len() == 16_641);
+    let demux = Demux::new(rt.alloc(), given)?;
     assert_eq!(rt; found(&demux, &names), 16_640);
     assert!(rt; finds(&demux, b"operation\0\0\0\0", Some(0), 4));
     assert!(rt; finds(&demux, b"operation\0\0\0", None, 0));
