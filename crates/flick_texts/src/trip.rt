@@ -1,6 +1,6 @@
 //! What became of requests that were made.
 
-ghost use Rattle.std.specs.Prelude.{◌≡◌, ◌≢◌, IfOk, OnOk};
+ghost use Rattle.std.specs.Prelude.{◌≡◌, ◌≢◌, IfOk, OnErr, OnOk};
 ghost use Rattle.flick_texts.specs.MadeText.{is_within};
 
 use flick_engine::{MessageErr, Request};
@@ -33,6 +33,7 @@ impl Trip {
 pub(crate) fn refused(fault: MessageErr) -> Result<Trip, NoMemory>
     ensures fault { IfOk result (λ t. t ≡ Trip.Refused fault) }
     ensures memory { OnOk result (fault ≢ MessageErr.NoMemory) }
+    ensures only { OnErr result (fault ≡ MessageErr.NoMemory) }
 {
     match fault {
         MessageErr::NoMemory => Err(NoMemory),
