@@ -1,6 +1,6 @@
 //! The replies that a file gives.
 
-ghost use Rattle.std.specs.Prelude.{◌≡◌, ◌≢◌, ◌<◌, ◌+◌, ◌∷◌, ◌==◌, [], None, Some, true, false, not, length, take, drop, is_some, slice_get, slice_set, IfNone, IfOk, IfSome, MatchBool, OnOk};
+ghost use Rattle.std.specs.Prelude.{◌≡◌, ◌≢◌, ◌<◌, ◌+◌, ◌∷◌, ◌==◌, [], None, Some, true, false, not, length, take, drop, is_some, slice_get, slice_set, IfNone, IfOk, IfSome, MatchBool, OnErr, OnOk};
 ghost use Rattle.std.specs.List.{position};
 ghost use Rattle.std.specs.Option.{option_map_or};
 ghost use Rattle.kit_base.specs.Limits.{longest_message};
@@ -145,6 +145,7 @@ fn record_in(
 fn none_of(refusal: RecordErr) -> Result<Option<RequestRec>, NoMemory>
     ensures none { IfOk result (λ o. o ≡ None) }
     ensures memory { OnOk result (refusal ≢ RecordErr.NoMemory) }
+    ensures only { OnErr result (refusal ≡ RecordErr.NoMemory) }
 {
     match refusal {
         RecordErr::Request | RecordErr::Op | RecordErr::Head | RecordErr::Shape => Ok(None),
