@@ -1,6 +1,6 @@
 //! What differs from one front end to another: its name, and the unit of a file's tokens.
 
-ghost use Rattle.std.specs.Prelude.{◌≡◌, ◌≤◌, Err, IfOk, length};
+ghost use Rattle.std.specs.Prelude.{◌≡◌, ◌≤◌, Err, IfOk, OnErr, length};
 ghost use Rattle.kit_base.specs.Limits.{longest_file};
 ghost use Rattle.aoi.specs.declared.faults.NameFault.TheVariants.{NoMemory as OutOfMemory};
 ghost use Rattle.front_onc.specs.Resolved.{IsWhole as OncIsWhole, resolved as onc_resolved};
@@ -60,7 +60,8 @@ fn of_tokens(alloc: Global, front: Front, tokens: &Tokens) -> Result<Result<Unit
 
 /// What is said of a name that is not resolved.
 fn named(error: NameErr) -> Result<Result<Unit, Report>, NoMemory>
-    ensures { IfOk result (λ read. (error.fault ≡ OutOfMemory → ⊥) × (read ≡ Err (reports.Name error))) }
+    ensures says { IfOk result (λ read. (error.fault ≡ OutOfMemory → ⊥) × (read ≡ Err (reports.Name error))) }
+    ensures only { OnErr result (error.fault ≡ OutOfMemory) }
 {
     match error.fault {
         NameFault::NoMemory => Err(NoMemory),
