@@ -30,3 +30,5 @@ pub mod WithoutTrees
 pub mod Counting
 -- * What is sent of a line is what its answer makes of the buffer, and what is sent one after the other adds up
 pub mod Sending
+-- Counts that were worked out by hand
+mod Worked

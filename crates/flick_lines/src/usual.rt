@@ -1,6 +1,6 @@
 //! The requests of lines in the usual form.
 
-ghost use Rattle.std.specs.Prelude.{◌<◌, length, slice_get, IfOk, IfSome};
+ghost use Rattle.std.specs.Prelude.{◌<◌, length, slice_get, IfOk, IfSome, IsUtf8, OnErr};
 ghost use Rattle.mint.specs.Typed.{IsWellTyped};
 ghost use Rattle.mint.specs.Types.{type_at};
 ghost use Rattle.mint.specs.Values.{seen};
@@ -18,6 +18,7 @@ pub(crate) fn usual_of(
     line: &[u8],
     scratch: &mut Scratch,
 ) -> Result<Option<RequestRec>, NoMemory>
+    ensures memory { OnErr result (IsUtf8 line.now) }
     ensures request { IfOk result (λ o. IfSome o (λ r. IsUsual engine.now.binding line.now r)) }
     ensures op { IfOk result (λ o. IfSome o (λ r. r.op < length engine.now.binding.ops)) }
     ensures typed { IfOk result (λ o. IfSome o (λ r. IfSome (slice_get engine.now.binding.ops r.op)
