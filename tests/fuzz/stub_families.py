@@ -21,7 +21,7 @@ def lists(item, bound=8192, levels=4):
 def union(arms):
     """A file whose operation has lists of a union, its arms in falling order."""
     cases = "".join(f"case {n}: void; " for n in range(arms, 0, -1))
-    return f"union u switch (int) {{ {cases}default: void; }};\n" + lists("u", levels=3)
+    return f"union u switch (int d) {{ {cases}default: void; }};\n" + lists("u", levels=3)
 
 
 def struct(depth):
@@ -77,11 +77,11 @@ FAMILIES = (
     Family("a long path in loops", lists("int"), lambda own, size: nested("row_copy " + filled(".0", size - 2_000) + "\n", own)),
     Family("empty texts beside a small stub", lists("int"), texts),
     Family("empty texts beside a large stub", "struct s { " + "".join(f"int a{n}<8>; " for n in range(20_000)) + "};\n" + FIELDS, texts),
-    Family("empty texts beside the last of 16,384 operations",
-           "".join(f"program P{p} {{ version V {{ {''.join(f'void F{n}(int) = {n};' for n in range(256))} }} = 1; }} = {p};\n" for p in range(64)),
-           lambda own, size: filled("send P63.V.F255\nend\n", size)),
+    Family("empty texts beside the last of 12,800 operations",
+           "".join(f"program P{p} {{ version V {{ {''.join(f'void F{n}(int) = {n};' for n in range(200))} }} = 1; }} = {p};\n" for p in range(64)),
+           lambda own, size: filled("send P63.V.F199\nend\n", size)),
     Family("empty texts of no operation",
-           "".join(f"program P{p} {{ version V {{ {''.join(f'void F{n}(int) = {n};' for n in range(256))} }} = 1; }} = {p};\n" for p in range(64)),
+           "".join(f"program P{p} {{ version V {{ {''.join(f'void F{n}(int) = {n};' for n in range(200))} }} = 1; }} = {p};\n" for p in range(64)),
            lambda own, size: filled("send P63.V.G\nend\n", size)),
 )
 
