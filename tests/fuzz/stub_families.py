@@ -88,5 +88,5 @@ FAMILIES = (
 
 def stubs(family, own, size=LENGTH):
     """The family's file of stubs: behind what it begins with stands a text that receives, which is passed over."""
-    text = family.begins(own, size)
+    text = family.begins(own, size - 11)
     return text + "recv P.V.F\n" + filled("\n", size - len(text) - 11)
