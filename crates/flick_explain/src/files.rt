@@ -1,10 +1,11 @@
 //! An interface file, its tokens, and where they are.
 
 use crate::fronts::tokens_of;
+use crate::statements::{Around, Arounds, Container, NO_BRACE, arounds_of};
 use crate::text::cut;
 use crate::tokens::{Spans, spans_of};
 use idl_lex::{Front, Token, TokenKind, Tokens};
-use kit_base::NoMemory;
+use kit_base::{Listed, NoMemory};
 use std::alloc::Global;
 use wire_def::Back;
 
@@ -21,12 +22,16 @@ pub struct File<'a> {
     pub text: &'a [u8],
 }
 
-/// The tokens of a file, each with its span.
+/// The tokens of a file, each with its span and the braces around it.
 #[derive(Drop)]
 pub struct Placed {
     tokens: Tokens,
     spans: Spans,
+    arounds: Arounds,
 }
+
+/// The braces that are open at a place, the innermost first, each with what has its declarations in it.
+pub type Open = Listed<Option<Container>>;
 
 impl Placed {
     /// The tokens of a file, where it has some.
@@ -34,7 +39,12 @@ impl Placed {
         match tokens_of(alloc, file.front, file.text)? {
             Some(tokens) => {
                 let spans = spans_of(alloc, file.front, file.text, &tokens)?;
-                Ok(Some(Placed { tokens, spans }))
+                let arounds = arounds_of(alloc, file.front, tokens.as_slice())?;
+                Ok(Some(Placed {
+                    tokens,
+                    spans,
+                    arounds,
+                }))
             }
             None => Ok(None),
         }
@@ -75,6 +85,28 @@ impl Placed {
             },
             None => 0,
         }
+    }
+
+    /// The innermost brace that is open before a token.
+    pub fn around(&self, i: usize) -> Around {
+        match self.arounds.get(i) {
+            Some(around) => *around,
+            None => NO_BRACE,
+        }
+    }
+
+    /// The braces that are open before a token.
+    pub fn open(&self, alloc: Global, i: usize) -> Result<Open, NoMemory> {
+        let mut open = Open::new(alloc);
+        let mut around = self.around(i);
+        for _ in self.tokens() {
+            let Some(brace) = around.brace.checked_sub(1) else {
+                return Ok(open);
+            };
+            open.push(around.container)?;
+            around = self.around(brace);
+        }
+        Ok(open)
     }
 
     /// The octets of a token.

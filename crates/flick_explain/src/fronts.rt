@@ -59,6 +59,52 @@ fn is_tree(error: Option<SyntaxErr>) -> Result<bool, NoMemory> {
     }
 }
 
+/// Whether the names of a text are resolved.
+pub fn is_resolved(alloc: Global, front: Front, text: &[u8]) -> Result<bool, NoMemory> {
+    match tokens_of(alloc, front, text)? {
+        Some(tokens) => match front {
+            Front::Onc => onc_names(alloc, &tokens),
+            Front::Corba => corba_names(alloc, &tokens),
+            Front::Mig => mig_names(alloc, &tokens),
+        },
+        None => Ok(false),
+    }
+}
+
+fn onc_names(alloc: Global, tokens: &Tokens) -> Result<bool, NoMemory> {
+    front_onc::files_are_whole();
+    match onc_syntax::parse(alloc, tokens) {
+        Ok(tree) => is_unit(front_onc::resolve(alloc, &tree).err()),
+        Err(error) => is_tree(Some(error)),
+    }
+}
+
+fn corba_names(alloc: Global, tokens: &Tokens) -> Result<bool, NoMemory> {
+    front_corba::files_are_whole();
+    match corba_syntax::parse(alloc, tokens) {
+        Ok(tree) => is_unit(front_corba::resolve(alloc, &tree).err()),
+        Err(error) => is_tree(Some(error)),
+    }
+}
+
+fn mig_names(alloc: Global, tokens: &Tokens) -> Result<bool, NoMemory> {
+    match mig_syntax::parse(alloc, tokens) {
+        Ok(tree) => is_unit(front_mig::resolve(alloc, &tree).err()),
+        Err(error) => is_tree(Some(error)),
+    }
+}
+
+/// Whether a tree gave a unit.
+fn is_unit(error: Option<NameErr>) -> Result<bool, NoMemory> {
+    match error {
+        None => Ok(true),
+        Some(error) => match error.fault {
+            NameFault::NoMemory => Err(NoMemory),
+            _ => Ok(false),
+        },
+    }
+}
+
 /// What a text comes to over a back end: how far, and what is bound.
 pub fn bound_of(
     alloc: Global,

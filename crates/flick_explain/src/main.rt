@@ -3,6 +3,7 @@
 #![tactic(auto)]
 
 mod answers;
+mod befores;
 mod bindings;
 mod bodies;
 mod causes;
@@ -30,6 +31,7 @@ mod places;
 mod records;
 mod refusals;
 mod reply_records;
+mod respelled;
 mod scalars;
 mod separators;
 mod shelved;

@@ -9,7 +9,7 @@ use crate::models::models_of;
 use crate::places::pointed;
 use crate::statements::{Statement, statement_of};
 use crate::text::{cut, number_in, shown};
-use idl_lex::TokenKind;
+use idl_lex::{Front, TokenKind};
 use kit_base::NoMemory;
 use std::alloc::Global;
 
@@ -32,14 +32,14 @@ pub fn name_reported(
     let Some(statement) = statement_of(alloc, file.front, &placed, number)? else {
         return Ok(None);
     };
-    let question = Question {
-        file,
-        placed: &placed,
-        head: None,
-        statement,
-        names: true,
+    let before = cut(file.text, 0, placed.start(file.text, statement.first));
+    let question = Question::of(file, &placed, statement, Some(before));
+    let narrowed = question.narrowed(alloc)?;
+    let at = if narrowed.is_settled {
+        last_free(&narrowed)
+    } else {
+        name_at(&question, narrowed.place(alloc)?, cause.of_names)
     };
-    let at = name_at(&question, question.furthest(alloc)?, cause.of_names);
     let token = shown(alloc, scoped(&placed, file.text, at))?;
     let message = format!(in alloc; "{} '{token}'", cause.what)?;
     let start = placed.start(file.text, at);
@@ -73,18 +73,28 @@ fn name_at(question: &Question<'_>, at: usize, of_names: bool) -> usize {
     at.min(last)
 }
 
+/// The last token of a part that is neither a mark nor a word of the language; the first where all are.
+fn last_free(part: &Question<'_>) -> usize {
+    for i in (part.statement.first..part.statement.end).rev() {
+        if is_free(part, i) {
+            return i;
+        }
+    }
+    part.statement.first
+}
+
 /// Whether a token is neither a mark nor a word of the language.
-fn is_free(question: &Question<'_>, i: usize) -> bool {
+pub fn is_free(question: &Question<'_>, i: usize) -> bool {
     match question.placed.kind(i) {
-        Some(TokenKind::Name(name)) => !is_of_language(question, name.as_slice()),
+        Some(TokenKind::Name(name)) => !is_of_language(question.file.front, name.as_slice()),
         Some(TokenKind::Mark(_)) | None => false,
         Some(_) => true,
     }
 }
 
 /// Whether a word is one of those that the models of the language have.
-fn is_of_language(question: &Question<'_>, name: &[u8]) -> bool {
-    let models = models_of(question.file.front);
+fn is_of_language(front: Front, name: &[u8]) -> bool {
+    let models = models_of(front);
     let mut rest = models;
     for _ in models {
         if first_word(rest) == name {

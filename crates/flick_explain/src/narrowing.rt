@@ -1,9 +1,10 @@
-//! A definition without a tree, narrowed by halving to the part that has none, so that only this is cut after each token.
+//! A definition without a tree, or without names, narrowed by halving to the part that has none, so that only this is cut
+//! after each token.
 
 use crate::files::is_mark;
 use crate::furthest::Question;
 use crate::separators::Separator;
-use crate::statements::{Statement, Walk};
+use crate::statements::{Statement, statements_of};
 use kit_base::{Listed, NoMemory};
 use std::alloc::Global;
 
@@ -13,52 +14,90 @@ pub type Places = Listed<usize>;
 /// How often a range of places is halved at most.
 const HALVES: u32 = 64;
 
-/// The most tokens of a declaration that is not narrowed.
-const FEW: usize = 64;
+/// Parts of a declaration, and an end that completes each of them.
+#[derive(Clone, Copy)]
+struct Parts<'p> {
+    /// Where each begins, and where the last ends.
+    places: &'p [usize],
+    /// The end.
+    end: &'static [u8],
+}
 
 impl<'a> Question<'a> {
-    /// The question about the part of the definition that has no tree.
+    /// The question about the part of the definition that has no tree, or a name at fault.
     pub fn narrowed(&self, alloc: Global) -> Result<Question<'a>, NoMemory> {
+        let declaration = match self.before {
+            Some(_) => *self,
+            None => self.declaration(alloc)?,
+        };
+        let part = declaration.part_of_long(alloc)?;
+        part.part_of_long(alloc)
+    }
+
+    /// The question about the declaration of the definition that has no tree.
+    fn declaration(&self, alloc: Global) -> Result<Question<'a>, NoMemory> {
         let places = self.declared(alloc)?;
-        let failing = self.first_failing(alloc, None, places.as_slice(), &[])?;
-        let declaration = self.about(None, failing);
-        if failing.end.saturating_sub(failing.first) <= FEW {
-            return self.or_narrower(alloc, declaration);
-        }
-        declaration.or_narrower(alloc, declaration.part_of_long(alloc)?)
+        let parts = Parts {
+            places: places.as_slice(),
+            end: &[],
+        };
+        self.failing(alloc, &parts)
     }
 
-    /// The same question about other tokens, after how the declaration begins.
-    fn about(&self, head: Option<Statement>, statement: Statement) -> Question<'a> {
-        Question {
-            file: self.file,
-            placed: self.placed,
-            head,
-            statement,
-            names: self.names,
+    /// The same question, where the tokens come after more of the declaration.
+    fn after(&self, head: Statement) -> Question<'a> {
+        let mut question = *self;
+        match self.head {
+            Some(_) => question.neck = Some(head),
+            None => question.head = Some(head),
         }
+        question
     }
 
-    /// This question, or a narrower one, unless that can go on at its end.
-    fn or_narrower(&self, alloc: Global, narrower: Question<'a>) -> Result<Question<'a>, NoMemory> {
-        let end = narrower.statement.end;
-        if end < self.statement.end && narrower.goes_on(alloc, end)? {
-            return Ok(*self);
+    /// The same question about other tokens.
+    fn over(&self, statement: Statement) -> Question<'a> {
+        let mut question = *self;
+        question.statement = statement;
+        question
+    }
+
+    /// The question about the first part that is not completed: alone, or else after all before it.
+    fn failing(&self, alloc: Global, parts: &Parts<'_>) -> Result<Question<'a>, NoMemory> {
+        let part = self.over(self.first_failing(alloc, parts, false)?);
+        if self.is_at(alloc, parts, part.statement)? {
+            return Ok(part);
         }
-        Ok(narrower)
+        let mut settled = self.over(self.first_failing(alloc, parts, true)?);
+        settled.is_settled = settled.statement.end < self.statement.end;
+        Ok(settled)
+    }
+
+    /// Whether a part that was found is the one at fault. Of names all before it are completed, and with it are not.
+    fn is_at(&self, alloc: Global, parts: &Parts<'_>, part: Statement) -> Result<bool, NoMemory> {
+        let is_last = part.end >= self.statement.end;
+        if self.before.is_none() {
+            return Ok(is_last || !self.over(part).is_completed(alloc, parts.end)?);
+        }
+        let first = place_at(parts.places, 0);
+        let end = part.first;
+        let before = self.over(Statement { first, end });
+        let end = part.end;
+        let with = self.over(Statement { first, end });
+        if !before.is_completed(alloc, parts.end)? {
+            return Ok(false);
+        }
+        Ok(is_last || !with.is_completed(alloc, parts.end)?)
     }
 
     /// Where the declarations of the definition begin, and where it ends.
     fn declared(&self, alloc: Global) -> Result<Places, NoMemory> {
         let statement = self.statement;
-        let mut walk = Walk::new(alloc, self.file.front);
         let mut places = Places::new(alloc);
         places.push(statement.first)?;
-        for (i, token) in self.placed.tokens().iter().enumerate() {
-            if walk.begins_at(&token.kind) && statement.has_inside(i) && self.follows(b";", i) {
-                places.push(i)?;
+        for other in statements_of(alloc, self.file.front, self.placed)?.as_slice() {
+            if statement.has_inside(other.first) && self.follows(b";", other.first) {
+                places.push(other.first)?;
             }
-            walk.pass(&token.kind)?;
         }
         places.push(statement.end)?;
         Ok(places)
@@ -72,29 +111,29 @@ impl<'a> Question<'a> {
         }
     }
 
-    /// The tokens between two neighbouring places that an end does not complete, where it completes all before.
+    /// The tokens of the first part that is not completed, which comes after all before it or after none.
     fn first_failing(
         &self,
         alloc: Global,
-        head: Option<Statement>,
-        places: &[usize],
-        end: &[u8],
+        parts: &Parts<'_>,
+        is_after_all: bool,
     ) -> Result<Statement, NoMemory> {
         let mut low = 0usize;
-        let mut high = places.len().saturating_sub(1);
+        let mut high = parts.places.len().saturating_sub(1);
         for _ in 0..HALVES {
             let middle = low.saturating_add(high.saturating_sub(low) / 2);
             if middle <= low {
-                return Ok(between(places, low, high));
+                return Ok(between(parts.places, low, high));
             }
-            let half = self.about(head, between(places, low, middle));
-            if half.is_completed(alloc, end)? {
+            let first = if is_after_all { 0 } else { low };
+            let half = self.over(between(parts.places, first, middle));
+            if half.is_completed(alloc, parts.end)? {
                 low = middle;
             } else {
                 high = middle;
             }
         }
-        Ok(between(places, low, high))
+        Ok(between(parts.places, low, high))
     }
 
     /// Whether an end completes it.
@@ -104,6 +143,9 @@ impl<'a> Question<'a> {
 
     /// The question about the part of a long declaration that cannot follow those before.
     fn part_of_long(&self, alloc: Global) -> Result<Question<'a>, NoMemory> {
+        if self.is_settled || self.is_short() || self.neck.is_some() {
+            return Ok(*self);
+        }
         let Some(separator) = self.separator() else {
             return Ok(*self);
         };
@@ -112,11 +154,18 @@ impl<'a> Question<'a> {
             first: self.statement.first,
             end: place_at(places.as_slice(), 0),
         };
-        match self.first_end(alloc, head.end)? {
-            None => Ok(self.about(None, head)),
+        let begun = self.over(head);
+        if !begun.is_short() {
+            return Ok(*self);
+        }
+        match begun.first_end(alloc, head.end)? {
+            None => Ok(begun),
             Some(end) => {
-                let part = self.first_failing(alloc, Some(head), places.as_slice(), end)?;
-                Ok(self.about(Some(head), part))
+                let parts = Parts {
+                    places: places.as_slice(),
+                    end,
+                };
+                self.after(head).failing(alloc, &parts)
             }
         }
     }

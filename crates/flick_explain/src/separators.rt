@@ -6,6 +6,9 @@ use crate::furthest::Question;
 /// What may stand between parts.
 const MARKS: [&[u8]; 2] = [b";", b","];
 
+/// What may stand between them where none of these does: labels, the names of scopes, arrays of arrays.
+const INNER_MARKS: [&[u8]; 3] = [b":", b"::", b"]"];
+
 /// Within how many brackets parts are looked for, from 0.
 const DEPTHS: usize = 6;
 
@@ -25,29 +28,41 @@ impl Question<'_> {
     pub fn separator(&self) -> Option<Separator> {
         let mut most = None;
         for mark in MARKS {
-            for depth in 0..DEPTHS {
-                let found = Separator {
-                    mark,
-                    depth,
-                    count: self.count(mark, depth),
-                };
-                most = more_frequent(most, found);
+            most = self.most_frequent(most, mark);
+        }
+        if most.is_none() {
+            for mark in INNER_MARKS {
+                most = self.most_frequent(most, mark);
             }
         }
         most
     }
 
-    /// How often a mark is there within so many brackets.
-    fn count(&self, mark: &[u8], wanted: usize) -> usize {
-        let mut count = 0usize;
+    /// The most frequent of one, and of a mark within each number of brackets.
+    fn most_frequent(&self, most: Option<Separator>, mark: &'static [u8]) -> Option<Separator> {
+        let mut most = most;
+        for (depth, count) in self.counts(mark).iter().enumerate() {
+            let found = Separator {
+                mark,
+                depth,
+                count: *count,
+            };
+            most = more_frequent(most, found);
+        }
+        most
+    }
+
+    /// How often a mark is there within each number of brackets.
+    fn counts(&self, mark: &[u8]) -> [usize; DEPTHS] {
+        let mut counts = [0usize; DEPTHS];
         let mut depth = 0usize;
         for i in self.statement.first..self.statement.end {
             depth = self.depth_after(i, depth);
-            if depth == wanted && is_mark(self.placed.kind(i), mark) {
-                count = count.saturating_add(1);
+            if depth < DEPTHS && is_mark(self.placed.kind(i), mark) {
+                counts[depth] = counts[depth].saturating_add(1);
             }
         }
-        count
+        counts
     }
 
     /// How many brackets are open after a token, where so many are before it.

@@ -1,8 +1,8 @@
 //! The declarations of a file, counted as refusals count them, and what is open around them.
 
 use crate::files::{Placed, is_mark, is_word};
-use idl_lex::{Front, TokenKind};
-use kit_base::NoMemory;
+use idl_lex::{Front, Token, TokenKind};
+use kit_base::{Listed, NoMemory};
 use std::alloc::Global;
 
 /// What has declarations of its own between its braces.
@@ -34,55 +34,67 @@ impl Statement {
     }
 }
 
+/// Declarations, in order.
+pub type Statements = Listed<Statement>;
+
+/// The innermost brace that is open before a token.
+#[derive(Clone, Copy)]
+pub struct Around {
+    /// The number of the brace among the tokens, from 1; 0 where none is open.
+    pub brace: usize,
+    /// What has its declarations in it; the braces of types have none.
+    pub container: Option<Container>,
+}
+
+/// The innermost braces before each token and behind the last.
+pub type Arounds = Listed<Around>;
+
+/// No brace.
+pub const NO_BRACE: Around = Around {
+    brace: 0,
+    container: None,
+};
+
 /// A walk over tokens: which braces are open, and whether a declaration may begin.
 #[derive(Drop)]
-pub struct Walk {
+struct Walk {
     front: Front,
-    open: Vec<Option<Container>>,
+    open: Vec<Around>,
     next: Option<Container>,
+    passed: usize,
     round: u32,
     fresh: bool,
 }
 
 impl Walk {
     /// A walk that is before the first token.
-    pub fn new(alloc: Global, front: Front) -> Walk {
+    fn new(alloc: Global, front: Front) -> Walk {
         Walk {
             front,
             open: Vec::new(alloc),
             next: None,
+            passed: 0,
             round: 0,
             fresh: true,
         }
     }
 
-    /// The walk past the first tokens.
-    pub fn past(
-        alloc: Global,
-        front: Front,
-        placed: &Placed,
-        count: usize,
-    ) -> Result<Walk, NoMemory> {
-        let mut walk = Walk::new(alloc, front);
-        let tokens = placed.tokens();
-        for token in &tokens[..tokens.len().min(count)] {
-            walk.pass(&token.kind)?;
+    /// The innermost brace that is open.
+    fn innermost(&self) -> Around {
+        match self.open.as_slice().last() {
+            Some(around) => *around,
+            None => NO_BRACE,
         }
-        Ok(walk)
-    }
-
-    /// What is open, the outermost first; the braces of types are none.
-    pub fn open(&self) -> &[Option<Container>] {
-        self.open.as_slice()
     }
 
     /// Whether a declaration begins at the token.
-    pub fn begins_at(&self, kind: &TokenKind) -> bool {
+    fn begins_at(&self, kind: &TokenKind) -> bool {
         self.fresh && !is_mark(Some(kind), b"}")
     }
 
     /// Passes a token.
-    pub fn pass(&mut self, kind: &TokenKind) -> Result<(), NoMemory> {
+    fn pass(&mut self, kind: &TokenKind) -> Result<(), NoMemory> {
+        self.passed = self.passed.saturating_add(1);
         if self.begins_at(kind) {
             self.next = container_of(self.front, kind);
             self.fresh = false;
@@ -97,7 +109,10 @@ impl Walk {
     /// Passes a `{`.
     fn enter(&mut self) -> Result<(), NoMemory> {
         self.fresh = self.next.is_some();
-        self.open.push(self.next)?;
+        self.open.push(Around {
+            brace: self.passed,
+            container: self.next,
+        })?;
         self.next = None;
         Ok(())
     }
@@ -121,10 +136,8 @@ impl Walk {
 
     /// Whether no brace of a type is open.
     fn is_among_containers(&self) -> bool {
-        match self.open.as_slice().last() {
-            Some(container) => container.is_some(),
-            None => true,
-        }
+        let around = self.innermost();
+        around.brace == 0 || around.container.is_some()
     }
 }
 
@@ -139,6 +152,48 @@ fn container_of(front: Front, kind: &TokenKind) -> Option<Container> {
     }
 }
 
+/// The innermost braces before each token of a file and behind the last.
+pub fn arounds_of(alloc: Global, front: Front, tokens: &[Token]) -> Result<Arounds, NoMemory> {
+    let mut walk = Walk::new(alloc, front);
+    let mut arounds = Arounds::new(alloc);
+    for token in tokens {
+        arounds.push(walk.innermost())?;
+        walk.pass(&token.kind)?;
+    }
+    arounds.push(walk.innermost())?;
+    Ok(arounds)
+}
+
+/// The declarations of a file, in the order in which refusals count them.
+pub fn statements_of(alloc: Global, front: Front, placed: &Placed) -> Result<Statements, NoMemory> {
+    let mut walk = Walk::new(alloc, front);
+    let mut statements = Statements::new(alloc);
+    let mut begun = None;
+    for (i, token) in placed.tokens().iter().enumerate() {
+        if walk.begins_at(&token.kind) {
+            begun = Some(i);
+        }
+        walk.pass(&token.kind)?;
+        if walk.fresh {
+            begun = put_statement(&mut statements, begun, i.saturating_add(1))?;
+        }
+    }
+    put_statement(&mut statements, begun, placed.len())?;
+    Ok(statements)
+}
+
+/// Appends the declaration that began at a token, if one did, and answers that none did since.
+fn put_statement(
+    statements: &mut Statements,
+    begun: Option<usize>,
+    end: usize,
+) -> Result<Option<usize>, NoMemory> {
+    if let Some(first) = begun {
+        statements.push(Statement { first, end })?;
+    }
+    Ok(None)
+}
+
 /// The declaration of a number, counted from 1.
 pub fn statement_of(
     alloc: Global,
@@ -146,29 +201,9 @@ pub fn statement_of(
     placed: &Placed,
     number: u32,
 ) -> Result<Option<Statement>, NoMemory> {
-    let mut walk = Walk::new(alloc, front);
-    let mut count = 0u32;
-    let mut first = None;
-    for (i, token) in placed.tokens().iter().enumerate() {
-        if walk.begins_at(&token.kind) {
-            count = count.saturating_add(1);
-            if count == number {
-                first = Some(i);
-            }
-        }
-        walk.pass(&token.kind)?;
-        if let Some(first) = first {
-            if walk.fresh {
-                let end = i.saturating_add(1);
-                return Ok(Some(Statement { first, end }));
-            }
-        }
-    }
-    match first {
-        Some(first) => {
-            let end = placed.len();
-            Ok(Some(Statement { first, end }))
-        }
+    let statements = statements_of(alloc, front, placed)?;
+    match (number as usize).checked_sub(1) {
+        Some(i) => Ok(statements.get(i).copied()),
         None => Ok(None),
     }
 }
