@@ -106,7 +106,7 @@ impl Checked<'_> {
         };
         match self.request_of(alloc, &stub.name)? {
             Some(id) if refusal.word == b"cover".as_slice() => self.cover_said(alloc, part, id),
-            Some(_) => self.meaning_said(alloc, part, &stub.name),
+            Some(id) => self.meaning_said(alloc, part, &stub.name, id),
             None => Ok(Some(Said {
                 line: part.line,
                 reported: unknown_reported(alloc, self.bound, stub.name.as_slice())?,
@@ -149,9 +149,10 @@ impl Checked<'_> {
         alloc: Global,
         part: &Part<'_>,
         name: &Name,
+        id: NodeId,
     ) -> Result<Option<Said>, NoMemory> {
         if let Some(own) = own_text(alloc, &self.run, self.text, name)? {
-            if let Some(found) = first_other(alloc, part.text, own.as_slice())? {
+            if let Some(found) = first_other(alloc, self.bound, id, part.text, own.as_slice())? {
                 return Ok(Some(Said {
                     line: part.line.saturating_add(found.lines),
                     reported: found.reported,

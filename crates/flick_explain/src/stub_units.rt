@@ -1,33 +1,19 @@
-//! `! meaning`: the first line of a stub that the kit's own has not.
+//! `! meaning`: the first item of a stub that is not that of the kit's own.
 
 use crate::command::Run;
 use crate::fronts::bound_of;
 use crate::records::dotted;
+use crate::stub_items::{Item, items_of};
 use crate::stub_parts::line_at;
+use crate::stub_paths::path_said;
 use crate::text::{from, shown};
 use flick_engine::Engine;
 use kit_base::{Name, NoMemory, Octets};
+use mint::table::NodeId;
 use pres::Bound;
 use std::alloc::Global;
 use stub_print::print_send;
 use wire_def::Back;
-
-/// A line of a stub, and how many come before it.
-#[derive(Clone, Copy)]
-struct Unit<'a> {
-    line: &'a [u8],
-    /// How many lines come before it.
-    lines: usize,
-}
-
-/// The lines of a text from a place on.
-#[derive(Clone, Copy)]
-struct Walk<'a> {
-    text: &'a [u8],
-    at: usize,
-    lines: usize,
-    in_chunk: bool,
-}
 
 /// What a stub has where our own has something else.
 #[derive(Drop)]
@@ -87,47 +73,6 @@ fn text_at(
     }
 }
 
-impl<'a> Walk<'a> {
-    /// The lines after the first.
-    fn of(text: &'a [u8]) -> Walk<'a> {
-        Walk {
-            text,
-            at: line_at(text, 0).len().saturating_add(1),
-            lines: 1,
-            in_chunk: false,
-        }
-    }
-
-    /// The next line that is no ensure and no border of a chunk.
-    fn next(&mut self) -> Option<Unit<'a>> {
-        for _ in 0..self.text.len() {
-            let line = line_at(self.text, self.at);
-            if from(self.text, self.at).is_empty() {
-                return None;
-            }
-            let unit = Unit {
-                line,
-                lines: self.lines,
-            };
-            self.at = self.at.saturating_add(line.len()).saturating_add(1);
-            self.lines = self.lines.saturating_add(1);
-            if !self.passes(line) {
-                return Some(unit);
-            }
-        }
-        None
-    }
-
-    /// Whether a line counts for nothing: an ensure, or the first or last line of a chunk.
-    fn passes(&mut self, line: &[u8]) -> bool {
-        let is_border = line.starts_with(b"chunk ") || self.in_chunk && line == b"end".as_slice();
-        if is_border {
-            self.in_chunk = !self.in_chunk;
-        }
-        is_border || line.starts_with(b"ensure")
-    }
-}
-
 /// A put without its offset.
 fn without_offset(line: &[u8]) -> &[u8] {
     match line.strip_prefix(b"at ") {
@@ -139,31 +84,73 @@ fn without_offset(line: &[u8]) -> &[u8] {
     }
 }
 
-/// The first line of a text that differs from that of our own.
-pub fn first_other(alloc: Global, text: &[u8], own: &[u8]) -> Result<Option<Differing>, NoMemory> {
-    let mut theirs = Walk::of(text);
-    let mut ours = Walk::of(own);
-    for _ in 0..text.len() {
-        match (theirs.next(), ours.next()) {
-            (Some(unit), Some(wanted)) => {
-                if without_offset(unit.line) != without_offset(wanted.line) {
-                    return Ok(Some(reported(alloc, unit, wanted.line)?));
-                }
-            }
-            _ => return Ok(None),
+/// Whether an item of a text is that of another text.
+fn is_same(text: &[u8], item: &Item, own: &[u8], other: &Item) -> bool {
+    match (item.value, other.value) {
+        (Some(value), Some(wanted)) => value == wanted,
+        (None, None) => {
+            let line = without_offset(line_at(text, item.start));
+            item.octet == other.octet && line == without_offset(line_at(own, other.start))
+        }
+        _ => false,
+    }
+}
+
+/// The first item of a text that differs from that of our own, over a node of requests.
+pub fn first_other(
+    alloc: Global,
+    bound: &Bound,
+    id: NodeId,
+    text: &[u8],
+    own: &[u8],
+) -> Result<Option<Differing>, NoMemory> {
+    let (Some(theirs), Some(ours)) = (items_of(alloc, text)?, items_of(alloc, own)?) else {
+        return Ok(None);
+    };
+    for (i, item) in theirs.as_slice().iter().enumerate() {
+        let Some(wanted) = ours.get(i) else {
+            return Ok(None);
+        };
+        if !is_same(text, item, own, wanted) {
+            let place = place_said(alloc, bound, id, own, wanted)?;
+            let has = item_said(alloc, text, item)?;
+            let wanted = item_said(alloc, own, wanted)?;
+            let reported = format!(in alloc;
+                "{place}the text has {has}, and our own code {wanted}"
+            )?;
+            let lines = item.lines;
+            return Ok(Some(Differing { lines, reported }));
         }
     }
     Ok(None)
 }
 
-/// What is said of a line that our own code has otherwise.
-fn reported(alloc: Global, unit: Unit<'_>, wanted: &[u8]) -> Result<Differing, NoMemory> {
-    let line = shown(alloc, unit.line)?;
-    let wanted = shown(alloc, wanted)?;
-    Ok(Differing {
-        lines: unit.lines,
-        reported: format!(in alloc;
-            "'{line}' is the first line that is written otherwise than here: '{wanted}'"
-        )?,
-    })
+/// The octet and the path of an item, as far as it has them.
+fn place_said(
+    alloc: Global,
+    bound: &Bound,
+    id: NodeId,
+    own: &[u8],
+    item: &Item,
+) -> Result<String, NoMemory> {
+    let mut out = String::new(alloc);
+    if let Some(at) = item.at {
+        out.push_str(format!(in alloc; "octet {at}: ")?.as_str())?;
+    }
+    if let Some(path) = path_said(alloc, bound, id, own, item.start)? {
+        out.push_str(format!(in alloc; "{path}: ")?.as_str())?;
+    }
+    Ok(out)
+}
+
+/// What an item is: an octet, or its line.
+fn item_said(alloc: Global, text: &[u8], item: &Item) -> Result<String, NoMemory> {
+    if let Some(value) = item.value {
+        return Ok(format!(in alloc; "the octet {value:02x}")?);
+    }
+    let line = shown(alloc, line_at(text, item.start))?;
+    if item.octet > 0 {
+        return Ok(format!(in alloc; "octet {} of '{line}'", item.octet)?);
+    }
+    Ok(format!(in alloc; "'{line}'")?)
 }
