@@ -30,14 +30,25 @@ impl Question<'_> {
     /// depends on alone, and counts where the whole file before cannot go on with it either.
     pub fn place(&self, alloc: Global) -> Result<usize, NoMemory> {
         if let Some(before) = self.few_before(alloc)? {
-            let mut question = *self;
-            question.before = Some(before.as_slice());
-            let at = question.furthest(alloc)?;
+            let at = self.over_before(before.as_slice()).furthest(alloc)?;
             if at < self.statement.end && !self.goes_on(alloc, at.saturating_add(1))? {
                 return Ok(at);
             }
         }
         self.furthest(alloc)
+    }
+
+    /// The same question, with other declarations before.
+    fn over_before<'b>(&'b self, before: &'b [u8]) -> Question<'b> {
+        Question {
+            file: self.file,
+            placed: self.placed,
+            head: self.head,
+            neck: self.neck,
+            statement: self.statement,
+            before: Some(before),
+            is_settled: self.is_settled,
+        }
     }
 
     /// What the declaration depends on, where the file before it is long and this is not.

@@ -34,7 +34,8 @@ pub fn name_reported(
     };
     let before = cut(file.text, 0, placed.start(file.text, statement.first));
     let question = Question::of(file, &placed, statement, Some(before));
-    let narrowed = question.narrowed(alloc)?;
+    let is_joint = matches!(word, b"Twice" | b"CaseClash" | b"Limit");
+    let narrowed = question.narrowed(alloc, is_joint)?;
     let at = if narrowed.is_settled {
         last_free(&narrowed)
     } else {

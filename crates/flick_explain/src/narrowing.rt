@@ -21,17 +21,20 @@ struct Parts<'p> {
     places: &'p [usize],
     /// The end.
     end: &'static [u8],
+    /// Whether it takes more than one of them to be at fault.
+    is_joint: bool,
 }
 
 impl<'a> Question<'a> {
-    /// The question about the part of the definition that has no tree, or a name at fault.
-    pub fn narrowed(&self, alloc: Global) -> Result<Question<'a>, NoMemory> {
+    /// The question about the part of the definition that has no tree, or a name at fault: alone, or where the fault is
+    /// joint the first that cannot follow all before it.
+    pub fn narrowed(&self, alloc: Global, is_joint: bool) -> Result<Question<'a>, NoMemory> {
         let declaration = match self.before {
             Some(_) => *self,
             None => self.declaration(alloc)?,
         };
-        let part = declaration.part_of_long(alloc)?;
-        part.part_of_long(alloc)
+        let part = declaration.part_of_long(alloc, is_joint)?;
+        part.part_of_long(alloc, is_joint)
     }
 
     /// The question about the declaration of the definition that has no tree.
@@ -40,6 +43,7 @@ impl<'a> Question<'a> {
         let parts = Parts {
             places: places.as_slice(),
             end: &[],
+            is_joint: false,
         };
         self.failing(alloc, &parts)
     }
@@ -63,9 +67,11 @@ impl<'a> Question<'a> {
 
     /// The question about the first part that is not completed: alone, or else after all before it.
     fn failing(&self, alloc: Global, parts: &Parts<'_>) -> Result<Question<'a>, NoMemory> {
-        let part = self.over(self.first_failing(alloc, parts, false)?);
-        if self.is_at(alloc, parts, part.statement)? {
-            return Ok(part);
+        if !parts.is_joint {
+            let part = self.over(self.first_failing(alloc, parts, false)?);
+            if self.is_at(alloc, parts, part.statement)? {
+                return Ok(part);
+            }
         }
         let mut settled = self.over(self.first_failing(alloc, parts, true)?);
         settled.is_settled = settled.statement.end < self.statement.end;
@@ -142,7 +148,7 @@ impl<'a> Question<'a> {
     }
 
     /// The question about the part of a long declaration that cannot follow those before.
-    fn part_of_long(&self, alloc: Global) -> Result<Question<'a>, NoMemory> {
+    fn part_of_long(&self, alloc: Global, is_joint: bool) -> Result<Question<'a>, NoMemory> {
         if self.is_settled || self.is_short() || self.neck.is_some() {
             return Ok(*self);
         }
@@ -164,6 +170,7 @@ impl<'a> Question<'a> {
                 let parts = Parts {
                     places: places.as_slice(),
                     end,
+                    is_joint,
                 };
                 self.after(head).failing(alloc, &parts)
             }

@@ -25,9 +25,19 @@ pub fn syntax_reported(
     let Some(first) = first_on(alloc, file.front, &placed, line)? else {
         return Ok(None);
     };
-    let end = placed.len();
-    let question = Question::of(file, &placed, Statement { first, end }, None);
-    Ok(Some(reported(alloc, &question.narrowed(alloc)?, line)?))
+    let question = Question {
+        file,
+        placed: &placed,
+        head: None,
+        neck: None,
+        statement: Statement {
+            first,
+            end: placed.len(),
+        },
+        before: None,
+        is_settled: false,
+    };
+    Ok(Some(reported(alloc, &question.narrowed(alloc, false)?, line)?))
 }
 
 /// The first token on a line at which a definition may begin: that of a declaration, or a brace that closes none.
