@@ -63,6 +63,11 @@ impl<'a> Question<'a> {
         }
     }
 
+    /// The question about tokens, whose names are not to be resolved.
+    pub fn of_text(file: &'a File<'a>, placed: &'a Placed, statement: Statement) -> Question<'a> {
+        Question::of(file, placed, statement, None)
+    }
+
     /// The first token of the declaration.
     pub fn first(&self) -> usize {
         match self.head {

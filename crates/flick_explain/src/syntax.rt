@@ -25,19 +25,10 @@ pub fn syntax_reported(
     let Some(first) = first_on(alloc, file.front, &placed, line)? else {
         return Ok(None);
     };
-    let question = Question {
-        file,
-        placed: &placed,
-        head: None,
-        neck: None,
-        statement: Statement {
-            first,
-            end: placed.len(),
-        },
-        before: None,
-        is_settled: false,
-    };
-    Ok(Some(reported(alloc, &question.narrowed(alloc, false)?, line)?))
+    let end = placed.len();
+    let question = Question::of_text(file, &placed, Statement { first, end });
+    let narrowed = question.narrowed(alloc, false)?;
+    Ok(Some(reported(alloc, &narrowed, line)?))
 }
 
 /// The first token on a line at which a definition may begin: that of a declaration, or a brace that closes none.
