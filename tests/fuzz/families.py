@@ -1,5 +1,5 @@
 """Families of interface files in which a little text stands for much: each makes a file of about so many octets, or of the greatest
-that it can be, where that is less. Their files are accepted, or refused for what they ask for. `bench/run files` measures what they cost."""
+that it can be, where that is less. Their files are accepted, or refused for what they ask for. `bench/run families` measures what they cost."""
 from collections import namedtuple
 
 INTERFACES, OPERATIONS = 64, 256
