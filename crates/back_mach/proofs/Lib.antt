@@ -20,3 +20,5 @@ pub mod Coding
 pub mod Wording
 -- * Heads that are sent are read as what they are sent for, and have one length
 pub mod Sent
+-- Heads of requests that were worked out by hand
+mod Worked
