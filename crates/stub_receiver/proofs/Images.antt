@@ -1,6 +1,6 @@
 -- The numbers of a row are those of its image, by induction on how many numbers there are.
-use Rattle.std.proofs.Common.{◌≡◌, ℕ, zero, suc, ◌+◌, ◌-◌, ◌*◌, ◌/◌, ◌≤◌, ℤ, pos, List, [], ◌∷◌, ◌++◌, length, take, drop, reverse, Bool, true, false, Option, None, Some, option_map, refl, sym, ap, ◌∙◌, inl, inr, arith, length-take, length-append}
-use Rattle.std.specs.Prelude.{if◌then◌else◌, ◌&&◌}
+use Rattle.std.proofs.Common.{◌≡◌, ℕ, zero, suc, ◌+◌, ◌-◌, ◌*◌, ◌/◌, ◌≤◌, ℤ, List, [], ◌∷◌, ◌++◌, length, take, drop, reverse, Bool, true, false, Option, None, Some, option_map, refl, sym, ap, ◌∙◌, inl, inr, arith, length-take, length-append}
+use Rattle.std.specs.Prelude.{if◌then◌else◌, ◌&&◌, Ok, Err}
 use Rattle.std.specs.List.{list_all}
 use Rattle.std.specs.Int.{Width, w8, w16, w32, w64, from_le_bytes, from_be_bytes}
 use Rattle.std.proofs.Math.Nat.{mul-div_cancel, zero-div}
@@ -23,10 +23,31 @@ use Rattle.mint.specs.declared.value.Value.TheVariants as value
 use Rattle.cast_stub.specs.Into.{is_digit, numbers_at, fill_block}
 use Rattle.cast_stub.specs.Runs.{Place, gives, refuses, Holds}
 use Rattle.stub_receiver.specs.declared.draft.Filling.TheVariants as filling
+use Rattle.stub_receiver.specs.declared.errors.Halt.{Halt}
+use Rattle.stub_receiver.specs.declared.errors.Halt.TheVariants.{Refused}
 use Rattle.stub_receiver.specs.Drawn.{drawn}
+use Rattle.stub_receiver.specs.Ran.{IsFound, IsTested}
 use Rattle.stub_receiver.proofs.Blocking.{block_near, block_gives, block_refuses}
 use Rattle.mint.proofs.Images.{some_octets}
 use Rattle.wire_def.proofs.RowWords.{word_number, words_read, words_first}
+
+-- ---- a test, as an answer
+
+pub passing : (b : Bool) (u : Unit {0}) → IsTested b (Ok u) → b ≡ true
+passing true u t = refl
+passing false u t = absurd cc
+
+pub failing : (b : Bool) (h : Halt) → IsTested b (Err h) → (b ≡ false) × (h ≡ Refused)
+failing true h t = absurd cc
+failing false h t = (refl, cc)
+
+pub finding : (x : Option ℤ) (n : ℤ) → IsFound x (Ok n) → x ≡ Some n
+finding (Some m) n f = cc
+finding None n f = absurd cc
+
+pub missing : (x : Option ℤ) (h : Halt) → IsFound x (Err h) → (x ≡ None) × (h ≡ Refused)
+missing (Some m) h f = absurd cc
+missing None h f = (refl, cc)
 
 -- ---- words
 

@@ -50,6 +50,11 @@ abbrev pub IsTested : Bool → Result (Unit {0}) Halt → Type 0
 IsTested true result = result ≡ Ok tt
 IsTested false result = result ≡ Err Refused
 
+-- a number that may be there, as an answer
+abbrev pub IsFound : Option ℤ → Result ℤ Halt → Type 0
+IsFound (Some n) result = result ≡ Ok n
+IsFound None result = result ≡ Err Refused
+
 -- what a whole run answers is what the code gives: a value, the place after it and the tests, or none
 abbrev pub IsGot : Got → View → stub.Got → Type 0
 IsGot (Value v) new x = x ≡ stub.given (seen v) new.pos new.tests

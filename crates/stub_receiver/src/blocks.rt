@@ -11,7 +11,7 @@ ghost use Rattle.stub_receiver.specs.Drawn.{drawn, array_at};
 ghost use Rattle.stub_receiver.specs.Ran.{place_of, AreRead, Gave};
 
 use crate::draft::Filling;
-use crate::errors::Halt;
+use crate::errors::{Halt, found, tested};
 use crate::looping::{Elements, elements_of};
 use crate::numbers::{digit_number, kind_at};
 use mint::fits::all_letters;
@@ -85,10 +85,8 @@ fn whole_block(
         return fill_block(alloc, mint, order, 1, id, n, view);
     }
     let row = view.row(alloc, kind, n as usize, order)?;
-    match are_digits(mint, id, &row) {
-        true => Ok(Filling::Done(Value::Row(row))),
-        false => Err(Halt::Refused),
-    }
+    tested(are_digits(mint, id, &row))?;
+    Ok(Filling::Done(Value::Row(row)))
 }
 
 /// Whether the numbers of a row are all a node's.
@@ -163,10 +161,8 @@ fn numbers_at(
     let mut off = 0usize;
     for _ in 0..n {
         let m = view.load(off, width as usize, order);
-        match digit_number(mint, id, width, m) {
-            Some(number) => row.push(number)?,
-            None => return Err(Halt::Refused),
-        }
+        let number = found(digit_number(mint, id, width, m))?;
+        row.push(number)?;
         off += width as usize;
     }
     Ok(row)

@@ -1,6 +1,6 @@
 //! Why a run ends before its code does.
 
-ghost use Rattle.stub_receiver.specs.Ran.{IsTested};
+ghost use Rattle.stub_receiver.specs.Ran.{IsFound, IsTested};
 
 use kit_base::NoMemory;
 
@@ -31,5 +31,15 @@ pub fn tested(passed: bool) -> Result<(), Halt>
     match passed {
         true => Ok(()),
         false => Err(Halt::Refused),
+    }
+}
+
+/// A number that passed its test, or none.
+pub fn found(number: Option<i128>) -> Result<i128, Halt>
+    ensures { IsFound number result }
+{
+    match number {
+        Some(n) => Ok(n),
+        None => Err(Halt::Refused),
     }
 }
