@@ -1,4 +1,5 @@
 pub mod Gives
+pub mod Halts
 pub mod Homes
 pub mod Laws
 pub mod Members

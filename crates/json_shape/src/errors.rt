@@ -59,25 +59,60 @@ pub(crate) enum Halt {
     NoMemory,
 }
 
+/// A text that is not in the usual form.
+#[derive(Clone, Copy, Debug, PartialEq, Eq)]
+pub(crate) struct Unusual;
+
+impl From<Unusual> for Halt {
+    ghost use Rattle.std.specs.Prelude.{◌≡◌};
+    ghost use Rattle.json_shape.specs.declared.errors.Halt.TheVariants as halts;
+
+    ghost from_gives = { λ _ h. h ≡ halts.Fallback };
+
+    fn from(_unusual: Unusual) -> Halt {
+        Halt::Fallback
+    }
+}
+
 impl From<NoMemory> for Halt {
+    ghost use Rattle.std.specs.Prelude.{◌≡◌};
+    ghost use Rattle.json_shape.specs.declared.errors.Halt.TheVariants as halts;
+
+    ghost from_gives = { λ _ h. h ≡ halts.NoMemory };
+
     fn from(_refused: NoMemory) -> Halt {
         Halt::NoMemory
     }
 }
 
 impl From<AllocError> for Halt {
+    ghost use Rattle.std.specs.Prelude.{◌≡◌};
+    ghost use Rattle.json_shape.specs.declared.errors.Halt.TheVariants as halts;
+
+    ghost from_gives = { λ _ h. h ≡ halts.NoMemory };
+
     fn from(_refused: AllocError) -> Halt {
         Halt::NoMemory
     }
 }
 
 impl<T: Drop> From<AllocFailed<T>> for Halt {
+    ghost use Rattle.std.specs.Prelude.{◌≡◌};
+    ghost use Rattle.json_shape.specs.declared.errors.Halt.TheVariants as halts;
+
+    ghost from_gives = { λ _ h. h ≡ halts.NoMemory };
+
     fn from(_refused: AllocFailed<T>) -> Halt {
         Halt::NoMemory
     }
 }
 
 impl From<ShapeErr> for Halt {
+    ghost use Rattle.std.specs.Prelude.{◌≡◌};
+    ghost use Rattle.json_shape.specs.Halts.{label_halt};
+
+    ghost from_gives = { λ e h. h ≡ label_halt e };
+
     fn from(error: ShapeErr) -> Halt {
         match error {
             ShapeErr::Shape => Halt::Fallback,
@@ -87,19 +122,33 @@ impl From<ShapeErr> for Halt {
 }
 
 impl From<FromHexError> for Halt {
+    ghost use Rattle.std.specs.Prelude.{◌≡◌};
+    ghost use Rattle.json_shape.specs.Halts.{digits_halt};
+
+    ghost from_gives = { λ e h. h ≡ digits_halt e };
+
     fn from(error: FromHexError) -> Halt {
         match error {
+            FromHexError::InvalidHexCharacter { c: _, index: _ } => Halt::Fallback,
+            FromHexError::OddLength => Halt::Fallback,
+            FromHexError::InvalidStringLength => Halt::Fallback,
             FromHexError::OutOfMemory => Halt::NoMemory,
-            _ => Halt::Fallback,
         }
     }
 }
 
 impl From<json::Error> for Halt {
+    ghost use Rattle.std.specs.Prelude.{◌≡◌};
+    ghost use Rattle.json_shape.specs.Halts.{text_halt};
+
+    ghost from_gives = { λ e h. h ≡ text_halt e };
+
     fn from(error: json::Error) -> Halt {
         match error {
+            json::Error::Invalid => Halt::Fallback,
+            json::Error::TooLong => Halt::Fallback,
+            json::Error::DuplicateKey => Halt::Fallback,
             json::Error::OutOfMemory => Halt::NoMemory,
-            _ => Halt::Fallback,
         }
     }
 }

@@ -12,7 +12,7 @@ ghost use Rattle.serde_json.specs.Data.{number, unsigned};
 ghost use Rattle.serde_json.specs.Read.{of_json};
 ghost use Rattle.json_shape.specs.Usual.{args_of, member_view, port_of, put_some, IsOnce, IsPresented, IsRecord, IsRequestIn, IsRequestOf, IsWord};
 
-use crate::errors::Halt;
+use crate::errors::{Halt, Unusual};
 use crate::members::{head_key, is_mach};
 use crate::operations::{is_oneway, op_named};
 use crate::records::RequestRec;
@@ -94,7 +94,10 @@ struct RequestMembers<'v, 'a> {
 }
 
 /// The members of a record in a usual order, where there are no others and none stands twice.
-fn request_members<'v, 'a>(back: Back, tree: &'v Tree<'a>) -> Result<RequestMembers<'v, 'a>, Halt>
+fn request_members<'v, 'a>(
+    back: Back,
+    tree: &'v Tree<'a>,
+) -> Result<RequestMembers<'v, 'a>, Unusual>
     ensures { IfOk result (λ m. IsRecord back (value_view tree.now)
         (value_view m.op.now) (member_view m.id) (member_view m.local) (member_view m.args)) }
 {
@@ -103,13 +106,13 @@ fn request_members<'v, 'a>(back: Back, tree: &'v Tree<'a>) -> Result<RequestMemb
     let (id_before, past_id) = leading(past_args, head_key(back));
     let (local_before, from_op) = leading_port(back, past_id);
     let (Some(op), after_op) = leading(from_op, "op") else {
-        return Err(Halt::Fallback);
+        return Err(Unusual);
     };
     let (id_after, after_id) = leading(after_op, head_key(back));
     let (local_after, after_local) = leading_port(back, after_id);
     let (args_after, others) = leading(after_local, "args");
     if !others.is_empty() {
-        return Err(Halt::Fallback);
+        return Err(Unusual);
     }
     Ok(RequestMembers {
         op,
@@ -123,13 +126,13 @@ fn request_members<'v, 'a>(back: Back, tree: &'v Tree<'a>) -> Result<RequestMemb
 fn once<'v, 'a>(
     before: Option<&'v Tree<'a>>,
     after: Option<&'v Tree<'a>>,
-) -> Result<Option<&'v Tree<'a>>, Halt>
+) -> Result<Option<&'v Tree<'a>>, Unusual>
     ensures { IfOk result (λ o. IsOnce (member_view before.entry) (member_view after.entry) (member_view o)) }
 {
     match (before, after) {
         (None, after) => Ok(after),
         (before, None) => Ok(before),
-        _ => Err(Halt::Fallback),
+        _ => Err(Unusual),
     }
 }
 
@@ -183,7 +186,7 @@ fn record_of(
 }
 
 /// The head number that a member is; 0 where it is absent.
-fn word_at(member: Option<&Tree<'_>>) -> Result<u32, Halt>
+fn word_at(member: Option<&Tree<'_>>) -> Result<u32, Unusual>
     ensures word { IfOk result (λ n. IsWord (member_view member.entry) n) }
     ensures small { IfOk result (λ n. n < 2 ^ 32) }
 {
@@ -195,17 +198,17 @@ fn word_at(member: Option<&Tree<'_>>) -> Result<u32, Halt>
 
 /// The number of a head that it is.
 #[tactic(auto, using(crate::proofs::UsualRecords::words))]
-fn word_in(tree: &Tree<'_>) -> Result<u32, Halt>
+fn word_in(tree: &Tree<'_>) -> Result<u32, Unusual>
     ensures word { IfOk result (λ n. of_json (value_view tree.now) ≡ Some (number (unsigned n))) }
     ensures small { IfOk result (λ n. n < 2 ^ 32) }
 {
     let digits = digits_in(tree)?;
     let Some(n) = integer(digits) else {
-        return Err(Halt::Fallback);
+        return Err(Unusual);
     };
     match u32::try_from(n) {
         Ok(word) => Ok(word),
-        Err(_) => Err(Halt::Fallback),
+        Err(_) => Err(Unusual),
     }
 }
 

@@ -11,7 +11,7 @@ ghost use Rattle.serde_json.specs.Read.{number_from, number_of};
 ghost use Rattle.json_shape.specs.Scalars.{flag, number_in, row_in, sign_in, whole_in};
 ghost use Rattle.json_shape.specs.Usual.{listed_in, IsRead};
 
-use crate::errors::Halt;
+use crate::errors::{Halt, Unusual};
 use crate::rows::block;
 use crate::scalars::number_named;
 use crate::texts::octets_of;
@@ -24,17 +24,17 @@ use pres::Shape;
 use std::alloc::Global;
 
 /// The number of a kind that the text is; letters are read by the tree.
-pub(crate) fn number(kind: Kind, tree: &Tree<'_>) -> Result<i128, Halt>
+pub(crate) fn number(kind: Kind, tree: &Tree<'_>) -> Result<i128, Unusual>
     ensures { IfOk result (λ n. IsRead (value_view tree.now) (sign_in (number kind)) n) }
 {
     match kind {
         Kind::Bool => truth(tree),
-        Kind::Char => Err(Halt::Fallback),
+        Kind::Char => Err(Unusual),
         _ => whole(kind, tree),
     }
 }
 
-fn truth(tree: &Tree<'_>) -> Result<i128, Halt>
+fn truth(tree: &Tree<'_>) -> Result<i128, Unusual>
     ensures { IfOk result (λ n. IsRead (value_view tree.now) (number_in kind.Bool) n) }
 {
     let truth = boolean_in(tree)?;
@@ -48,12 +48,12 @@ fn flag(truth: bool) -> i128
     if truth { 1 } else { 0 }
 }
 
-fn whole(kind: Kind, tree: &Tree<'_>) -> Result<i128, Halt>
+fn whole(kind: Kind, tree: &Tree<'_>) -> Result<i128, Unusual>
     ensures { IfOk result (λ n. IsRead (value_view tree.now) (whole_in kind) n) }
 {
     let digits = digits_in(tree)?;
     let Some(n) = integer(digits) else {
-        return Err(Halt::Fallback);
+        return Err(Unusual);
     };
     let n = ranged(kind, n)?;
     Ok(n)
@@ -61,15 +61,11 @@ fn whole(kind: Kind, tree: &Tree<'_>) -> Result<i128, Halt>
 
 /// The number, where it is of the kind.
 #[tactic(auto, using(crate::proofs::UsualTexts::numbers))]
-fn ranged(kind: Kind, n: i128) -> Result<i128, Halt>
+fn ranged(kind: Kind, n: i128) -> Result<i128, Unusual>
     ensures same { IfOk result (λ m. m ≡ n) }
     ensures ranged { OnOk result (in_range kind n ≡ true) }
 {
-    if kind.has(n) {
-        Ok(n)
-    } else {
-        Err(Halt::Fallback)
-    }
+    if kind.has(n) { Ok(n) } else { Err(Unusual) }
 }
 
 /// The integer of at most 64 bits that a number's text is.
