@@ -14,7 +14,7 @@ use pres::{Bound, Op};
 use stub_places::spend;
 
 /// The names that are compared in a step.
-const NAMES: usize = 32;
+const NAMES: usize = 16;
 
 /// The name of an interface.
 fn interface_name(interfaces: &[Interface], k: u32) -> &[u8]
