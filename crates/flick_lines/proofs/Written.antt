@@ -74,6 +74,18 @@ pub reply-written : (b : Binding) (k : ℕ) (r : Reply) (d : Data) (text : List 
     → (has_float d ≡ false → text ≡ compact_text d) → text ≡ reply_text b k (replied r)
 reply-written b k r d text h is compact = of-reply b k r d text (slice_get b.ops k) (there b.ops k h) is compact
 
+of-reply-text : (b : Binding) (k : ℕ) (r : Reply) (text : List ℕ) (op : Option Op) → (op ≡ None → ⊥)
+    → IfSome op (λ o. text ≡ compact_text (reply_json b k o r.head r.outcome)) → text ≡ replied_text b k op (replied r)
+of-reply-text b k r text None some is = absurd (some refl)
+of-reply-text b k r text (Some o) some is =
+    is ∙ ap (λ (ms : Members). compact_text (reply_with b o r.head ms))
+    (came-members (raises b k) (face_at b.nodes b.shapes o.reply) r.outcome)
+
+-- a text that is that of the reply's record
+pub reply-text-written : (b : Binding) (k : ℕ) (r : Reply) (text : List ℕ) → k < length b.ops
+    → IfSome (slice_get b.ops k) (λ o. text ≡ compact_text (reply_json b k o r.head r.outcome)) → text ≡ reply_text b k (replied r)
+reply-text-written b k r text h is = of-reply-text b k r text (slice_get b.ops k) (there b.ops k h) is
+
 -- what a call came to, of its reply's type, is an outcome of that
 pub came-outcome : (t : Ty) (o : Outcome) → IsTypedCame t (came o) → IsOutcome t o
 came-outcome t (Answer v) typed = typed

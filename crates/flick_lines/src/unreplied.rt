@@ -1,6 +1,6 @@
 //! The answers of `unreply`.
 
-ghost use Rattle.std.specs.Prelude.{◌≡◌, ◌<◌, ◌+◌, ◌==◌, length, take, drop, true, IfOk, IfSome, Ok, slice_get, string_bytes};
+ghost use Rattle.std.specs.Prelude.{◌≡◌, ◌<◌, ◌+◌, ◌==◌, length, take, drop, true, IfOk, IfSome, Ok, slice_get};
 ghost use Rattle.std.specs.List.{position};
 ghost use Rattle.flick_engine.specs.Replies.{reply_type};
 ghost use Rattle.flick_engine.specs.RepliesReceived.{IsTypedCame, came, replied, ReadReply};
@@ -77,18 +77,32 @@ fn of_octets(alloc: Global, engine: &Engine, op: u32, message: &[u8]) -> Result<
         IsOfOctets (ReadReply engine.now.binding op) (reply_text engine.now.binding op) (Ok message.now) o) }
 {
     match engine.unmarshal_reply(alloc, op, message) {
-        Ok(reply) => copied(alloc, record_text(alloc, engine, op, &reply)?.as_bytes()),
+        Ok(reply) => copied(alloc, record_text(alloc, engine, op, &reply)?.as_slice()),
         Err(refusal) => copied(alloc, refusal_text(alloc, refusal)?.as_bytes()),
     }
 }
 
-/// The record of a reply as JSON without blanks.
-fn record_text(alloc: Global, engine: &Engine, op: u32, reply: &Reply) -> Result<String, NoMemory>
+/// The record of a reply as JSON without blanks: straight from its value, or by its tree.
+fn record_text(alloc: Global, engine: &Engine, op: u32, reply: &Reply) -> Result<Vec<u8>, NoMemory>
     requires op { op < length engine.now.binding.ops }
     requires reply { IfSome (slice_get engine.now.binding.ops op) (λ o. o.has_reply ≡ true) }
     requires typed { IsTypedCame (reply_type engine.now.binding op) (came reply.now.outcome) }
-    ensures { IfOk result (λ s. string_bytes s ≡ reply_text engine.now.binding op (replied reply.now)) }
+    ensures { IfOk result (λ text. text.items ≡ reply_text engine.now.binding op (replied reply.now)) }
+{
+    let bound = engine.bound();
+    match json_shape::reply_text(alloc, bound, op, &reply.head, &reply.outcome)? {
+        Some(text) => Ok(text),
+        None => by_tree(alloc, engine, op, reply),
+    }
+}
+
+/// The record of a reply by its tree.
+fn by_tree(alloc: Global, engine: &Engine, op: u32, reply: &Reply) -> Result<Vec<u8>, NoMemory>
+    requires op { op < length engine.now.binding.ops }
+    requires reply { IfSome (slice_get engine.now.binding.ops op) (λ o. o.has_reply ≡ true) }
+    requires typed { IsTypedCame (reply_type engine.now.binding op) (came reply.now.outcome) }
+    ensures { IfOk result (λ text. text.items ≡ reply_text engine.now.binding op (replied reply.now)) }
 {
     let record = write_reply(alloc, engine.bound(), op, &reply.head, &reply.outcome)?;
-    Ok(record.to_string(alloc)?)
+    Ok(record.to_vec(alloc)?)
 }

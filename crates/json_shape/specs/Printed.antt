@@ -1,6 +1,6 @@
 -- What is written of a tree, token by token.
 use Rattle.std.specs.Prelude.{◌≡◌, ℕ, suc, List, [], ◌∷◌, ◌++◌, get_or, decimal, codes}
-use Rattle.json.specs.Token.{Token, key, number}
+use Rattle.json.specs.Token.{Token, key, number, string}
 use Rattle.json.specs.Tree.{json_tokens, items_tokens, members_tokens}
 use Rattle.json.specs.Written.{Written}
 use Rattle.wire_def.specs.declared.encoding.Back.{Back}
@@ -64,3 +64,23 @@ abbrev pub head_after : Back → Head → List Token
 head_after back.Xdr h = word_tokens (codes "xid") h.id
 head_after back.Mach h = word_tokens (codes "remote") h.remote
 head_after _ h = []
+
+-- the number of a reply's head where its key is before `op`
+abbrev pub reply_before : Back → Head → List Token
+reply_before back.CdrBig h = word_tokens (codes "id") h.id
+reply_before back.CdrLittle h = word_tokens (codes "id") h.id
+reply_before _ h = []
+
+-- the number of a reply's head where its key is between `outs` and `result`
+abbrev pub reply_amid : Back → Head → List Token
+reply_amid back.Mach h = word_tokens (codes "remote") h.remote
+reply_amid _ h = []
+
+-- the number of a reply's head where its key is after `result`
+abbrev pub reply_after : Back → Head → List Token
+reply_after back.Xdr h = word_tokens (codes "xid") h.id
+reply_after _ h = []
+
+-- the member with the name of an operation
+abbrev pub name_tokens : List ℕ → List Token
+name_tokens name = key (codes "op") ∷ string (text_of name) ∷ []

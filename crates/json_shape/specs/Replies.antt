@@ -168,11 +168,13 @@ abbrev pub outcome_members : List PlainRaise → Face → Outcome → Members
 outcome_members rs f (Answer value) = answer_members rs f (seen value)
 outcome_members rs f (Refused why) = refused_members why
 
+-- a reply record by the name of its operation, with other members
+abbrev pub reply_named : Back → Head → List ℕ → Members → Data
+reply_named b h name ms = object (put (codes "op") (string (text_of name)) (put (head_key b) (word (head_word b h)) ms))
+
 -- a reply record with the members of what its call came to
 abbrev pub reply_with : Binding → Op → Head → Members → Data
-reply_with b o h ms =
-    object (put (codes "op") (string (text_of (dotted b.unit.interfaces o)))
-    (put (head_key b.back) (word (head_word b.back h)) ms))
+reply_with b o h ms = reply_named b.back h (dotted b.unit.interfaces o) ms
 
 -- the reply record of what a call came to
 abbrev pub reply_json : Binding → ℕ → Op → Head → Outcome → Data

@@ -10,6 +10,8 @@ mod numbers;
 mod objects;
 mod operations;
 mod printed_records;
+mod printed_refusals;
+mod printed_replies;
 mod printed_scalars;
 mod printing;
 mod reading;
@@ -32,6 +34,7 @@ pub use laws::{
     json_is_decided, json_presents_one_value, records_are_read_back, written_json_presents,
 };
 pub use printed_records::request_text;
+pub use printed_replies::reply_text;
 pub use reading::to_value;
 pub use records::RequestRec;
 pub use replies::{read_given, read_reply, reply_named};

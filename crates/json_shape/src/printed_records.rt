@@ -18,7 +18,7 @@ use std::alloc::Global;
 use wire_def::{Back, Head};
 
 /// The octets that a text has room for at first.
-const ROOM: usize = 128;
+pub(crate) const ROOM: usize = 128;
 
 /// The text of a request's record, without blanks, unless it is to be written by its tree: a struct has more than 32
 /// fields.
@@ -97,7 +97,7 @@ fn put_before(back: Back, head: &Head, out: &mut Writer) -> Result<(), Halt>
 }
 
 /// Writes the head number whose key is after `op`.
-fn put_after(back: Back, head: &Head, out: &mut Writer) -> Result<(), Halt>
+pub(crate) fn put_after(back: Back, head: &Head, out: &mut Writer) -> Result<(), Halt>
     ensures { OnOk result (Adds out.old out.new (head_after back head.now)) }
 {
     match back {
@@ -109,7 +109,7 @@ fn put_after(back: Back, head: &Head, out: &mut Writer) -> Result<(), Halt>
 
 /// Writes a member with a head number.
 #[tactic(auto, using(crate::proofs::Adding::adding))]
-fn put_word(key: &str, n: u32, out: &mut Writer) -> Result<(), Halt>
+pub(crate) fn put_word(key: &str, n: u32, out: &mut Writer) -> Result<(), Halt>
     ensures { OnOk result (Adds out.old out.new (word_tokens key.now n)) }
 {
     out.key(key)?;

@@ -137,7 +137,7 @@ fn group(
             let order = order_of(alloc, names)?;
             by_name(alloc, bound, id, ids, names, order.as_slice(), values, out)
         }
-        _ => in_order(alloc, bound, id, ids, values, out),
+        _ => in_order(alloc, bound, id, ids.as_slice(), values.as_slice(), out),
     }
 }
 
@@ -181,12 +181,12 @@ fn by_name(
 /// Writes values as the items of an array.
 #[cycle(print)]
 #[tactic(auto, using(crate::proofs::Adding::adding))]
-fn in_order(
+pub(crate) fn in_order(
     alloc: Global,
     bound: &Bound,
     id: NodeId,
-    ids: &NodeIds,
-    values: &Values,
+    ids: &[NodeId],
+    values: &[Value],
     out: &mut Writer,
 ) -> Result<(), Halt>
     requires id { id < length bound.now.nodes }
@@ -194,8 +194,6 @@ fn in_order(
     ensures { OnOk result (Adds out.old out.new (tokens_of (array (in_order_json
         (parts_at (faces bound.now.nodes bound.now.shapes) [] ids.now) (all_seen values.now))))) }
 {
-    let ids = ids.as_slice();
-    let values = values.as_slice();
     out.begin_array()?;
     for i in 0..ids.len().min(values.len()) {
         print(alloc, bound, ids[i], &values[i], out)?;

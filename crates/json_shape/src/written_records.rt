@@ -167,7 +167,7 @@ fn refusal(alloc: Global, why: &Refusal) -> Result<Vec<Json>, NoMemory>
 }
 
 /// The word of a refusal.
-fn refusal_name(why: &Refusal) -> &'static str
+pub(crate) fn refusal_name(why: &Refusal) -> &'static str
     ensures { result.now ≡ refusal_name why.now }
 {
     match why {

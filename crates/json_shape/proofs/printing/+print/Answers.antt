@@ -39,7 +39,6 @@ in_order-returns t c =
     let old = c.args.out.now in
     let out = c.loop-i.out in
     let all = tokens_of (array (in_order_json (parts_at fs [] ids) (all_seen values))) in
-    let least = rw (c.as_slice-ids.ensures, c.as_slice-values.ensures) at c.min-i-end.ensures in
-    let none = parts_none fs ids values c.loop-i.i (λ m n. omega (arith, least, c.loop-i-test.false, m, n)) in
+    let none = parts_none fs ids values c.loop-i.i (λ m n. omega (arith, c.min-i-end.ensures, c.loop-i-test.false, m, n)) in
     let left = subst (λ (js : Items). Leaves old out (tokens_of_items js) all) none c.loop-i.invariant in
     left_last old out c.end_array.new.self end_array all c.in_ok-end_array.ensures.ok c.in_ok-end_array.ensures.room.0 left
