@@ -1,5 +1,6 @@
 pub mod Asked
 pub mod Backs
+pub mod Distinct
 pub mod Laws
 pub mod Lowered
 pub mod Messages

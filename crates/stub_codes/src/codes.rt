@@ -114,7 +114,7 @@ impl Codes {
             (arm_type self.now.binding op arm) result.now }
     {
         match self.stub(op).replies_in(minor).get(arm as usize) {
-            Some(code) => code,
+            Some(code) => code.get(),
             None => unreachable!(),
         }
     }
@@ -126,7 +126,7 @@ impl Codes {
         ensures receives { Receives (encoding self.now.binding.back)
             (request_type self.now.binding op) result.now }
     {
-        &self.stub(op).recv
+        self.stub(op).recv.get()
     }
 
     /// The code that receives what goes into an operation, laid out in one of the ways that the back end takes.
@@ -139,10 +139,10 @@ impl Codes {
     {
         let stub = self.stub(op);
         if enc == encoding_of(self.bound.back()) {
-            return &stub.recv;
+            return stub.recv.get();
         }
         match &stub.other {
-            Some(code) => code,
+            Some(code) => code.get(),
             None => unreachable!(),
         }
     }

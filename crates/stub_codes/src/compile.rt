@@ -1,19 +1,25 @@
 //! The code of each operation of a binding.
 
-ghost use Rattle.std.specs.Prelude.{◌≡◌, ◌<◌, length, IfOk};
+ghost use Rattle.std.specs.Prelude.{◌≡◌, ◌<◌, ◌≤◌, length, IfOk};
 ghost use Rattle.mint.specs.Types.{type_at};
-ghost use Rattle.stub_codes.specs.Backs.{IsMinorOver};
+ghost use Rattle.stub_codes.specs.Backs.{encoding, other_encoding, IsMinorOver};
+ghost use Rattle.stub_codes.specs.Distinct.{AreSame};
 ghost use Rattle.stub_codes.specs.Lowered.{AreLowered};
 ghost use Rattle.stub_codes.specs.Messages.{request_type};
+ghost use Rattle.stub_codes.specs.Receiving.{Receives, ReceivesOther};
 ghost use Rattle.stub_codes.specs.Stubs.{AreStubs, IsStub};
 
 use crate::backs::{encoding_of, lead_of, other_of};
+use crate::distinct::{Distinct, distinct_of};
+use crate::earlier::{Earlier, request_type_of, with_request};
 use crate::lowered::{Lowered, lower_all};
-use crate::receiving::{receiving, receiving_other};
+use crate::receiving::{receiving, receiving_other, shared_other};
 use crate::replying::{later_of, replies_of};
 use crate::sending::sending;
 use crate::stub::{Stub, Stubs};
+use cast_stub::RecvCode;
 use kit_base::NoMemory;
+use kit_shared::Shared;
 use mint::table::NodeId;
 use pres::Bound;
 use std::alloc::Global;
@@ -30,28 +36,69 @@ pub(crate) fn request_of(bound: &Bound, op: u32) -> NodeId
     }
 }
 
+/// The codes that receive what goes into an operation, in each order: those of an earlier operation where it is the same.
+fn receivers_of(
+    alloc: Global,
+    bound: &Bound,
+    types: &Distinct,
+    low: &Lowered,
+    stubs: &Stubs,
+    p: u32,
+    op: u32,
+    minor: u8,
+) -> Result<(Shared<RecvCode>, Option<Shared<RecvCode>>), NoMemory>
+    requires op { op < length bound.now.ops }
+    requires many { length types.now.ids ≡ length bound.now.nodes }
+    requires same { AreSame types.now.mint bound.now.nodes types.now.ids }
+    requires lowered { AreLowered bound.now.back types.now.mint low.now }
+    requires few { length stubs.now ≤ length bound.now.ops }
+    requires stubs { AreStubs bound.now minor stubs.now }
+    ensures recv { IfOk result
+        (λ r. Receives (encoding bound.now.back) (request_type bound.now op) r.0) }
+    ensures other { IfOk result
+        (λ r. ReceivesOther (other_encoding bound.now.back) (request_type bound.now op) r.1) }
+{
+    match with_request(bound, types, stubs, minor, p, op) {
+        Some(stub) => Ok((stub.recv.share()?, shared_other(&stub.other)?)),
+        None => {
+            let back = bound.back();
+            let id = request_type_of(bound, types, op);
+            let recv = receiving(alloc, encoding_of(back), &low.recvs, &types.mint, id)?;
+            let other = receiving_other(alloc, other_of(back), &low.others, &types.mint, id)?;
+            Ok((recv, other))
+        }
+    }
+}
+
 /// The code of an operation, whose requests are sent in a version.
 fn stub_of(
     alloc: Global,
     bound: &Bound,
+    types: &Distinct,
     low: &Lowered,
+    stubs: &Stubs,
+    earlier: &mut Earlier,
     op: u32,
     minor: u8,
 ) -> Result<Stub, NoMemory>
     requires op { op < length bound.now.ops }
     requires minor { IsMinorOver bound.now.back minor }
-    requires lowered { AreLowered bound.now.back bound.now.nodes low.now }
+    requires many { length types.now.ids ≡ length bound.now.nodes }
+    requires same { AreSame types.now.mint bound.now.nodes types.now.ids }
+    requires lowered { AreLowered bound.now.back types.now.mint low.now }
+    requires few { length stubs.now ≤ length bound.now.ops }
+    requires stubs { AreStubs bound.now minor stubs.now }
     ensures { IfOk result (λ stub. IsStub bound.now minor op stub) }
 {
     let back = bound.back();
-    let mint = bound.mint();
-    let id = request_of(bound, op);
+    let id = request_type_of(bound, types, op);
     let lead = lead_of(alloc, bound, op, minor)?;
-    let send = sending(alloc, back, lead, low, mint, id)?;
-    let recv = receiving(alloc, encoding_of(back), &low.recvs, mint, id)?;
-    let other = receiving_other(alloc, other_of(back), &low.others, mint, id)?;
-    let replies = replies_of(alloc, bound, low, op, 0)?;
-    let later = later_of(alloc, bound, low, op)?;
+    let send = sending(alloc, back, lead, low, &types.mint, id)?;
+    let p = earlier.request(id);
+    let (recv, other) = receivers_of(alloc, bound, types, low, stubs, p, op, minor)?;
+    let replies = replies_of(alloc, bound, types, low, stubs, earlier, minor, op, 0)?;
+    let later = later_of(alloc, bound, types, low, stubs, earlier, minor, op)?;
+    earlier.keep_request(id, op);
     Ok(Stub {
         send,
         recv,
@@ -61,17 +108,22 @@ fn stub_of(
     })
 }
 
-/// The code of each operation, in their order, whose requests are sent in a version. The nodes are lowered once.
+/// The code of each operation, in their order, whose requests are sent in a version. The types are lowered once.
 pub(crate) fn stubs_of(alloc: Global, bound: &Bound, minor: u8) -> Result<Stubs, NoMemory>
     requires { IsMinorOver bound.now.back minor }
     ensures many { IfOk result (λ stubs. length stubs ≡ length bound.now.ops) }
     ensures each { IfOk result (λ stubs. AreStubs bound.now minor stubs) }
 {
-    let low = lower_all(alloc, bound.back(), bound.mint())?;
-    let mut stubs = Stubs::new(alloc);
+    let types = distinct_of(alloc, bound.mint())?;
+    let low = lower_all(alloc, bound.back(), &types.mint)?;
+    let mut earlier = Earlier::new(alloc, types.mint.len(), bound.ops().len())?;
+    let mut stubs = Stubs::with_room(alloc, bound.ops().len())?;
     for i in 0..bound.ops().len() {
         match u32::try_from(i) {
-            Ok(op) => stubs.push(stub_of(alloc, bound, &low, op, minor)?)?,
+            Ok(op) => {
+                let stub = stub_of(alloc, bound, &types, &low, &stubs, &mut earlier, op, minor)?;
+                stubs.push(stub)?;
+            }
             Err(_) => return Err(NoMemory),
         }
     }

@@ -11,6 +11,7 @@ use cast_stub::{RecvCode, RecvSubs};
 use chunker::{Phase, chunk_recv};
 use copy_inline::{inline_recv, rows_recv};
 use kit_base::NoMemory;
+use kit_shared::Shared;
 use mint::table::{Mint, NodeId};
 use std::alloc::Global;
 use wire_def::Encoding;
@@ -35,7 +36,7 @@ pub(crate) fn receiving(
     subs: &RecvSubs,
     mint: &Mint,
     id: NodeId,
-) -> Result<RecvCode, NoMemory>
+) -> Result<Shared<RecvCode>, NoMemory>
     requires id { id < length mint.now }
     requires subs { AreReceivers enc mint.now subs.now }
     ensures { IfOk result (λ code. Receives enc (type_at mint.now id) code) }
@@ -43,7 +44,7 @@ pub(crate) fn receiving(
     mint.types_are_sound();
     let flat = inline_recv(alloc, subs, id)?;
     let rowed = rows_recv(alloc, enc, &flat, mint, id)?;
-    chunk_recv(alloc, &rowed, phase_of(enc))
+    Shared::new(alloc, chunk_recv(alloc, &rowed, phase_of(enc))?)
 }
 
 /// The same over another encoding, where there is one.
@@ -53,7 +54,7 @@ pub(crate) fn receiving_other(
     subs: &Option<RecvSubs>,
     mint: &Mint,
     id: NodeId,
-) -> Result<Option<RecvCode>, NoMemory>
+) -> Result<Option<Shared<RecvCode>>, NoMemory>
     requires id { id < length mint.now }
     requires subs { AreOthers other mint.now subs.now }
     ensures { IfOk result (λ code. ReceivesOther other (type_at mint.now id) code) }
@@ -63,6 +64,18 @@ pub(crate) fn receiving_other(
             Some(subs) => Ok(Some(receiving(alloc, enc, subs, mint, id)?)),
             None => unreachable!(),
         },
+        None => Ok(None),
+    }
+}
+
+/// One more owner of such code, where there is some.
+pub(crate) fn shared_other(
+    other: &Option<Shared<RecvCode>>,
+) -> Result<Option<Shared<RecvCode>>, NoMemory>
+    ensures { IfOk result (λ o. o ≡ other.now) }
+{
+    match other {
+        Some(code) => Ok(Some(code.share()?)),
         None => Ok(None),
     }
 }

@@ -1,62 +1,125 @@
 //! The code that sends an operation's replies.
 
-ghost use Rattle.std.specs.Prelude.{◌<◌, ℕ, length, IfOk};
+ghost use Rattle.std.specs.Prelude.{◌≡◌, ◌<◌, ◌≤◌, ℕ, [], length, IfOk};
 ghost use Rattle.back_cdr.specs.Targets.{IsCdr};
 ghost use Rattle.stub_codes.specs.Backs.{reply_lead, IsMinorOver};
+ghost use Rattle.stub_codes.specs.Distinct.{AreSame};
 ghost use Rattle.stub_codes.specs.Lowered.{AreLowered};
 ghost use Rattle.stub_codes.specs.Replies.{HasArm, arm_type};
 ghost use Rattle.stub_codes.specs.Sending.{Sends};
-ghost use Rattle.stub_codes.specs.Stubs.{HasReplies};
+ghost use Rattle.stub_codes.specs.Stubs.{AreStubs, HasReplies};
 
-use crate::arms::{arm_node, arms_of};
+use crate::arms::arms_of;
 use crate::backs::reply_lead_of;
+use crate::distinct::Distinct;
+use crate::earlier::{Earlier, arm_type_of, with_reply};
 use crate::lowered::Lowered;
 use crate::sending::sending;
+use crate::stub::Stubs;
 use cast_stub::SendCode;
+use head_arms::exceptions_of;
 use kit_base::{Listed, NoMemory};
+use kit_shared::Shared;
 use pres::Bound;
 use std::alloc::Global;
 use wire_def::Back;
 
-/// The code that sends the replies to an operation with an arm, in a version.
-fn arm_code(
+/// Code made for the replies to an operation with an arm, in a version.
+fn made(
     alloc: Global,
     bound: &Bound,
+    types: &Distinct,
     low: &Lowered,
     op: u32,
     arm: u32,
     minor: u8,
-) -> Result<SendCode, NoMemory>
+) -> Result<Shared<SendCode>, NoMemory>
     requires op { op < length bound.now.ops }
     requires arm { HasArm bound.now op arm }
     requires minor { IsMinorOver bound.now.back minor }
-    requires lowered { AreLowered bound.now.back bound.now.nodes low.now }
+    requires many { length types.now.ids ≡ length bound.now.nodes }
+    requires same { AreSame types.now.mint bound.now.nodes types.now.ids }
+    requires lowered { AreLowered bound.now.back types.now.mint low.now }
     ensures { IfOk result (λ code.
         Sends bound.now.back (reply_lead bound.now minor op arm) (arm_type bound.now op arm) code) }
 {
     let lead = reply_lead_of(alloc, bound, op, arm, minor)?;
-    let id = arm_node(bound, op, arm);
-    sending(alloc, bound.back(), lead, low, bound.mint(), id)
+    let id = arm_type_of(bound, types, op, arm);
+    Shared::new(alloc, sending(alloc, bound.back(), lead, low, &types.mint, id)?)
+}
+
+/// The code that sends the replies to an operation with an arm, in a version: that of an earlier operation where it is
+/// the same.
+fn arm_code(
+    alloc: Global,
+    bound: &Bound,
+    types: &Distinct,
+    low: &Lowered,
+    stubs: &Stubs,
+    earlier: &mut Earlier,
+    lead: u8,
+    op: u32,
+    arm: u32,
+    minor: u8,
+) -> Result<Shared<SendCode>, NoMemory>
+    requires op { op < length bound.now.ops }
+    requires arm { HasArm bound.now op arm }
+    requires minor { IsMinorOver bound.now.back minor }
+    requires many { length types.now.ids ≡ length bound.now.nodes }
+    requires same { AreSame types.now.mint bound.now.nodes types.now.ids }
+    requires lowered { AreLowered bound.now.back types.now.mint low.now }
+    requires few { length stubs.now ≤ length bound.now.ops }
+    requires stubs { AreStubs bound.now lead stubs.now }
+    ensures { IfOk result (λ code.
+        Sends bound.now.back (reply_lead bound.now minor op arm) (arm_type bound.now op arm) code) }
+{
+    let id = arm_type_of(bound, types, op, arm);
+    let raises = exceptions_of(bound, op) > 0;
+    let (p, _) = earlier.reply(id, arm, raises);
+    match with_reply(bound, types, stubs, lead, p, op, arm, minor) {
+        Some(code) => code.share(),
+        None => {
+            earlier.keep_reply(id, arm, raises, op);
+            made(alloc, bound, types, low, op, arm, minor)
+        }
+    }
+}
+
+/// A list without codes that has room for so many.
+fn room_for(alloc: Global, arms: usize) -> Result<Listed<Shared<SendCode>>, NoMemory>
+    ensures { IfOk result (λ codes. codes ≡ []) }
+{
+    Listed::with_room(alloc, arms)
 }
 
 /// The code of each arm of an operation's reply in a version, in their order.
 pub(crate) fn replies_of(
     alloc: Global,
     bound: &Bound,
+    types: &Distinct,
     low: &Lowered,
+    stubs: &Stubs,
+    earlier: &mut Earlier,
+    lead: u8,
     op: u32,
     minor: u8,
-) -> Result<Listed<SendCode>, NoMemory>
+) -> Result<Listed<Shared<SendCode>>, NoMemory>
     requires op { op < length bound.now.ops }
     requires minor { IsMinorOver bound.now.back minor }
-    requires lowered { AreLowered bound.now.back bound.now.nodes low.now }
+    requires many { length types.now.ids ≡ length bound.now.nodes }
+    requires same { AreSame types.now.mint bound.now.nodes types.now.ids }
+    requires lowered { AreLowered bound.now.back types.now.mint low.now }
+    requires few { length stubs.now ≤ length bound.now.ops }
+    requires stubs { AreStubs bound.now lead stubs.now }
     ensures each { IfOk result (λ codes. HasReplies bound.now minor op codes) }
     ensures arms { IfOk result (λ codes. (k : ℕ) → k < length codes → HasArm bound.now op k) }
 {
-    let mut codes = Listed::new(alloc);
+    let mut codes = room_for(alloc, arms_of(bound, op).len())?;
     for i in 0..arms_of(bound, op).len() {
         match u32::try_from(i) {
-            Ok(arm) => codes.push(arm_code(alloc, bound, low, op, arm, minor)?)?,
+            Ok(arm) => codes.push(arm_code(
+                alloc, bound, types, low, stubs, earlier, lead, op, arm, minor,
+            )?)?,
             Err(_) => return Err(NoMemory),
         }
     }
@@ -67,16 +130,26 @@ pub(crate) fn replies_of(
 pub(crate) fn later_of(
     alloc: Global,
     bound: &Bound,
+    types: &Distinct,
     low: &Lowered,
+    stubs: &Stubs,
+    earlier: &mut Earlier,
+    lead: u8,
     op: u32,
-) -> Result<Listed<SendCode>, NoMemory>
+) -> Result<Listed<Shared<SendCode>>, NoMemory>
     requires op { op < length bound.now.ops }
-    requires lowered { AreLowered bound.now.back bound.now.nodes low.now }
+    requires many { length types.now.ids ≡ length bound.now.nodes }
+    requires same { AreSame types.now.mint bound.now.nodes types.now.ids }
+    requires lowered { AreLowered bound.now.back types.now.mint low.now }
+    requires few { length stubs.now ≤ length bound.now.ops }
+    requires stubs { AreStubs bound.now lead stubs.now }
     ensures each { IfOk result (λ codes. IsCdr bound.now.back → HasReplies bound.now 2 op codes) }
     ensures arms { IfOk result (λ codes. (k : ℕ) → k < length codes → HasArm bound.now op k) }
 {
     match bound.back() {
-        Back::CdrBig | Back::CdrLittle => replies_of(alloc, bound, low, op, 2),
+        Back::CdrBig | Back::CdrLittle => {
+            replies_of(alloc, bound, types, low, stubs, earlier, lead, op, 2)
+        },
         Back::Xdr | Back::Mach => Ok(Listed::new(alloc)),
     }
 }

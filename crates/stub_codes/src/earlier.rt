@@ -1,0 +1,182 @@
+//! Codes that an earlier operation has, for an operation of which the same is promised.
+
+ghost use Rattle.std.specs.Prelude.{◌≡◌, ◌<◌, ◌≤◌, length, IfOk, IfSome, true};
+ghost use Rattle.mint.specs.Types.{type_at};
+ghost use Rattle.back_cdr.specs.Targets.{IsCdr};
+ghost use Rattle.stub_codes.specs.Backs.{encoding, other_encoding, reply_lead, IsMinorOver};
+ghost use Rattle.stub_codes.specs.Distinct.{AreSame};
+ghost use Rattle.stub_codes.specs.Messages.{request_type};
+ghost use Rattle.stub_codes.specs.Receiving.{Receives, ReceivesOther};
+ghost use Rattle.stub_codes.specs.Replies.{arm_type, HasArm};
+ghost use Rattle.stub_codes.specs.Sending.{Sends};
+ghost use Rattle.stub_codes.specs.Stubs.{AreStubs};
+
+use crate::arms::arm_node;
+use crate::compile::request_of;
+use crate::distinct::{Distinct, number_in};
+use crate::stub::{Stub, Stubs};
+use cast_stub::{RecvCode, SendCode};
+use head_arms::exceptions_of;
+use kit_base::NoMemory;
+use kit_shared::Shared;
+use mint::table::NodeId;
+use pres::Bound;
+use std::alloc::Global;
+use wire_def::Back;
+
+/// Which operations had codes made for a type, by numbers that prove nothing.
+#[derive(Drop)]
+pub(crate) struct Earlier {
+    /// For each type, an operation of whose requests it is.
+    requests: Vec<u32>,
+    /// For each slot, an operation and an arm of its replies.
+    replies: Vec<(u32, u32)>,
+}
+
+/// The number of no operation.
+const NONE: u32 = u32::MAX;
+
+impl Earlier {
+    /// None yet, for so many types and so many operations.
+    pub(crate) fn new(alloc: Global, types: usize, ops: usize) -> Result<Earlier, NoMemory> {
+        Ok(Earlier {
+            requests: vec![in alloc; NONE; types]?,
+            replies: vec![in alloc; (NONE, 0); types + ops + 1]?,
+        })
+    }
+
+    /// An operation whose requests are perhaps of a type.
+    pub(crate) fn request(&self, id: NodeId) -> u32 {
+        number_in(self.requests.as_slice(), id)
+    }
+
+    /// Keeps an operation whose requests are of a type.
+    pub(crate) fn keep_request(&mut self, id: NodeId, op: u32) {
+        let at = id as usize;
+        if at < self.requests.len() {
+            self.requests[at] = op;
+        }
+    }
+
+    /// The slot of an arm's type and of what the head says of it.
+    fn slot(&self, id: NodeId, arm: u32, raises: bool) -> usize {
+        let mark = id.wrapping_add(arm.wrapping_mul(2654435761)).wrapping_add(u32::from(raises));
+        mark as usize % self.replies.len()
+    }
+
+    /// An operation, and an arm of its replies, which perhaps has such a reply.
+    pub(crate) fn reply(&self, id: NodeId, arm: u32, raises: bool) -> (u32, u32) {
+        self.replies[self.slot(id, arm, raises)]
+    }
+
+    /// Keeps an operation and an arm of its replies.
+    pub(crate) fn keep_reply(&mut self, id: NodeId, arm: u32, raises: bool, op: u32) {
+        let at = self.slot(id, arm, raises);
+        self.replies[at] = (op, arm);
+    }
+}
+
+/// The type of what goes into an operation, by its number.
+pub(crate) fn request_type_of(bound: &Bound, types: &Distinct, op: u32) -> NodeId
+    requires op { op < length bound.now.ops }
+    requires many { length types.now.ids ≡ length bound.now.nodes }
+    requires same { AreSame types.now.mint bound.now.nodes types.now.ids }
+    ensures id { result < length types.now.mint }
+    ensures type_ { type_at types.now.mint result ≡ request_type bound.now op }
+{
+    number_in(types.ids.as_slice(), request_of(bound, op))
+}
+
+/// The type of the value of an arm of what comes back from an operation, by its number.
+pub(crate) fn arm_type_of(bound: &Bound, types: &Distinct, op: u32, arm: u32) -> NodeId
+    requires op { op < length bound.now.ops }
+    requires arm { HasArm bound.now op arm }
+    requires many { length types.now.ids ≡ length bound.now.nodes }
+    requires same { AreSame types.now.mint bound.now.nodes types.now.ids }
+    ensures id { result < length types.now.mint }
+    ensures type_ { type_at types.now.mint result ≡ arm_type bound.now op arm }
+{
+    number_in(types.ids.as_slice(), arm_node(bound, op, arm))
+}
+
+/// The stub of an earlier operation whose requests are of the same type, where the number is one's.
+pub(crate) fn with_request<'a>(
+    bound: &Bound,
+    types: &Distinct,
+    stubs: &'a Stubs,
+    _minor: u8,
+    p: u32,
+    op: u32,
+) -> Option<&'a Stub>
+    requires op { op < length bound.now.ops }
+    requires many { length types.now.ids ≡ length bound.now.nodes }
+    requires same { AreSame types.now.mint bound.now.nodes types.now.ids }
+    requires few { length stubs.now ≤ length bound.now.ops }
+    requires stubs { AreStubs bound.now _minor stubs.now }
+    ensures recv { IfSome result
+        (λ s. Receives (encoding bound.now.back) (request_type bound.now op) s.now.recv) }
+    ensures other { IfSome result
+        (λ s. ReceivesOther (other_encoding bound.now.back) (request_type bound.now op) s.now.other) }
+{
+    match stubs.get(p as usize) {
+        Some(stub) => {
+            if request_type_of(bound, types, p) == request_type_of(bound, types, op) {
+                Some(stub)
+            } else {
+                None
+            }
+        }
+        None => None,
+    }
+}
+
+/// Whether the heads of replies to operations with arms are the same for that the arms have one number, and both
+/// operations raise exceptions or none, as heads over ONC say; or are answers, of which heads of GIOP say nothing.
+fn have_one_lead(bound: &Bound, op: u32, p: u32, arm: u32) -> bool
+    requires op { op < length bound.now.ops }
+    requires p { p < length bound.now.ops }
+    ensures { result ≡ true → (m : ℕ) → reply_lead bound.now m op arm ≡ reply_lead bound.now m p arm }
+{
+    match bound.back() {
+        Back::Xdr => (exceptions_of(bound, op) == 0) == (exceptions_of(bound, p) == 0),
+        Back::CdrBig | Back::CdrLittle => arm == 0,
+        Back::Mach => false,
+    }
+}
+
+/// The code of an earlier operation that sends the replies to an operation with an arm, in a version, where the numbers
+/// are one's.
+pub(crate) fn with_reply<'a>(
+    bound: &Bound,
+    types: &Distinct,
+    stubs: &'a Stubs,
+    _lead: u8,
+    p: u32,
+    op: u32,
+    arm: u32,
+    minor: u8,
+) -> Option<&'a Shared<SendCode>>
+    requires op { op < length bound.now.ops }
+    requires arm { HasArm bound.now op arm }
+    requires minor { IsMinorOver bound.now.back minor }
+    requires many { length types.now.ids ≡ length bound.now.nodes }
+    requires same { AreSame types.now.mint bound.now.nodes types.now.ids }
+    requires few { length stubs.now ≤ length bound.now.ops }
+    requires stubs { AreStubs bound.now _lead stubs.now }
+    ensures { IfSome result (λ c. Sends bound.now.back (reply_lead bound.now minor op arm)
+        (arm_type bound.now op arm) c.now) }
+{
+    let Some(stub) = stubs.get(p as usize) else {
+        return None;
+    };
+    let Some(code) = stub.replies_in(minor).get(arm as usize) else {
+        return None;
+    };
+    if have_one_lead(bound, op, p, arm)
+        && arm_type_of(bound, types, p, arm) == arm_type_of(bound, types, op, arm)
+    {
+        Some(code)
+    } else {
+        None
+    }
+}
