@@ -12,10 +12,14 @@ pub mod ReplyTypes
 mod Numbering
 -- * The arms of a reply above 0 are as many as its operation's exceptions, and over CDR as their ids, by induction on the interfaces
 pub mod ArmIds
+-- * The distinct types of a table stand for the types of its nodes, by induction on the parts of a node
+mod Alike
 -- * The codes of operations and of their arms, one after the other
 mod Chained
 -- * What a run of an operation's code has done, as it is promised of the operation
 mod Done
+-- * Codes of an earlier operation, for another of which the same is promised
+mod Again
 -- * What requests and replies cost by the codes that are kept
 mod Costing
 -- * A value that was received is what the message has, and nothing else

@@ -1,6 +1,6 @@
 -- The distinct types of a table, as a table of their own.
 use Rattle.std.specs.Prelude.{◌≡◌, ◌<◌, ℕ, ℤ, List, map, length, Option, Some, option_map, slice_get, slice_index_or}
-use Rattle.mint.specs.Types.{type_at}
+use Rattle.mint.specs.Types.{level, type_at, unfolded}
 use Rattle.mint.specs.declared.node.Node.{Node}
 use Rattle.mint.specs.declared.node.Node.TheVariants as node
 
@@ -19,6 +19,10 @@ renumbered ids (node.Items i c) = node.Items (number_in ids i) c
 renumbered ids (node.Choice t arms other) = node.Choice t (map (arm_in ids) arms) (option_map (number_in ids) other)
 renumbered ids (node.Maybe i) = node.Maybe (number_in ids i)
 renumbered ids n = n
+
+-- the node of a number is of the type of this one
+abbrev pub Stands : List Node → Node → ℕ → Type 0
+Stands nodes n i = (i < length nodes) × (type_at nodes i ≡ level (unfolded nodes) n)
 
 -- numbers of nodes of a table, each of the type of the node of its place in another
 abbrev pub AreSame : List Node → List Node → List ℕ → Type 0

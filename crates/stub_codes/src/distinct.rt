@@ -3,7 +3,7 @@
 
 ghost use Rattle.std.specs.Prelude.{◌≡◌, ◌<◌, ◌++◌, ◌∷◌, [], length, map, option_map, true, IfOk, IfSome, OnOk};
 ghost use Rattle.mint.specs.Types.{type_at};
-ghost use Rattle.stub_codes.specs.Distinct.{arm_in, number_in, renumbered, AreSame};
+ghost use Rattle.stub_codes.specs.Distinct.{arm_in, number_in, renumbered, AreSame, Stands};
 
 use crate::same_node::is_renumbered;
 use kit_base::NoMemory;
@@ -165,7 +165,7 @@ fn mark_of(ids: &[u32], node: &Node) -> u32 {
     match node {
         Node::Void => 0,
         Node::Num(kind) => mixed(11, mark_of_kind(*kind)),
-        Node::Enum(labels) => mixed(12, labels.len() as u32),
+        Node::Enum(labels) => mixed(12, (labels.len() % 65536) as u32),
         Node::Text(count) => mixed(13, mark_of_count(*count)),
         Node::Row(kind, count) => mixed(mixed(14, mark_of_kind(*kind)), mark_of_count(*count)),
         Node::Group(given) => mixed(15, mark_of_ids(ids, given.as_slice())),
@@ -180,12 +180,12 @@ fn slot_of(slots: &[u32], mark: u32, k: usize) -> usize
     requires { 0 < length slots.now }
     ensures { result < length slots.now }
 {
-    (mark as usize + k) % slots.len()
+    (mark as usize).wrapping_add(k) % slots.len()
 }
 
-/// The node of a table that has the number of a slot, where it is a node with other numbers.
+/// Whether the node of a number is another one with other numbers.
 fn same_at(small: &Mint, ids: &[u32], node: &Node, id: u32) -> bool
-    ensures { result ≡ true → slice_get small.now id ≡ Some (renumbered ids.now node.now) }
+    ensures { result ≡ true → Stands small.now (renumbered ids.now node.now) id }
 {
     match small.node(id) {
         Some(kept) => is_renumbered(ids, node, kept),
@@ -196,7 +196,7 @@ fn same_at(small: &Mint, ids: &[u32], node: &Node, id: u32) -> bool
 /// The number of a node of a table that is a node with other numbers, where it is at one of its slots.
 fn found(small: &Mint, slots: &[u32], ids: &[u32], node: &Node, mark: u32) -> Option<NodeId>
     requires { 0 < length slots.now }
-    ensures { IfSome result (λ i. slice_get small.now i ≡ Some (renumbered ids.now node.now)) }
+    ensures { IfSome result (Stands small.now (renumbered ids.now node.now)) }
 {
     for k in 0..TRIES {
         let id = slots[slot_of(slots, mark, k)];
@@ -207,19 +207,26 @@ fn found(small: &Mint, slots: &[u32], ids: &[u32], node: &Node, mark: u32) -> Op
     None
 }
 
-/// Puts a number into a slot of its mark that has none, or else into the first.
+/// A slot of a mark that has no number, or else the first.
+fn free_slot(slots: &[u32], mark: u32) -> usize
+    requires { 0 < length slots.now }
+    ensures { result < length slots.now }
+{
+    for k in 0..TRIES {
+        let at = slot_of(slots, mark, k);
+        if slots[at] == NONE {
+            return at;
+        }
+    }
+    slot_of(slots, mark, 0)
+}
+
+/// Puts a number into a slot of a mark.
 fn keep(slots: &mut Vec<u32>, mark: u32, id: u32)
     requires { 0 < length slots.old.items }
     ensures { length slots.new.items ≡ length slots.old.items }
 {
-    let mut at = slot_of(slots, mark, 0);
-    for k in 0..TRIES {
-        let other = slot_of(slots, mark, k);
-        if slots[other] == NONE {
-            at = other;
-            break;
-        }
-    }
+    let at = free_slot(slots.as_slice(), mark);
     slots[at] = id;
 }
 

@@ -56,11 +56,26 @@ fn is_other_in(ids: &[u32], given: Option<u32>, kept: Option<u32>) -> bool
     }
 }
 
+/// Whether numbers are the same.
+fn are_same(given: &[i32], kept: &[i32]) -> bool
+    ensures { result ≡ true → kept.now ≡ given.now }
+{
+    if given.len() != kept.len() {
+        return false;
+    }
+    for i in 0..given.len() {
+        if kept[i] != given[i] {
+            return false;
+        }
+    }
+    true
+}
+
 /// Whether labels are the same.
 fn are_labels_of(given: &Labels, kept: &Labels) -> bool
     ensures { result ≡ true → kept.now ≡ given.now }
 {
-    kept.as_slice() == given.as_slice()
+    are_same(given.as_slice(), kept.as_slice())
 }
 
 /// Whether discriminants are the same.

@@ -1,0 +1,84 @@
+-- Codes of an earlier operation, for another of which the same is promised.
+use Rattle.std.proofs.Common.{◌≡◌, ◌<◌, ℕ, zero, suc, List, [], ◌∷◌, length, Bool, true, false, Some, slice_get, refl, sym, ap, subst, ◌∙◌, arith}
+use Rattle.mint.specs.Types.{Ty}
+use Rattle.wire_def.specs.declared.encoding.Back.{Back}
+use Rattle.wire_def.specs.declared.encoding.Back.TheVariants as back
+use Rattle.wire_def.specs.declared.head.Head.{Head}
+use Rattle.cast_stub.specs.declared.send.SendCode.{SendCode}
+use Rattle.raw_buf.specs.Words.{words}
+use Rattle.pres.specs.Bindings.{Binding}
+use Rattle.head_arms.specs.Raised.{exceptions}
+use Rattle.back_xdr.specs.Leads.{reply_numbers}
+use Rattle.back_cdr.specs.Targets.{IsCdr}
+use Rattle.stub_codes.specs.declared.stub.Stub.{Stub}
+use Rattle.stub_codes.specs.Backs.{encoding, other_encoding, IsMinorOver, reply_lead, reply_lead_over}
+use Rattle.stub_codes.specs.Messages.{request_type}
+use Rattle.stub_codes.specs.Receiving.{Receives, ReceivesOther}
+use Rattle.stub_codes.specs.Replies.{HasArm, arm_type}
+use Rattle.stub_codes.specs.Sending.{Sends}
+use Rattle.stub_codes.specs.Stubs.{AreStubs, IsStub, replies_in}
+use Rattle.stub_codes.proofs.Done.{kept_is}
+
+-- ---- heads of replies that are the same
+
+-- over ONC the head says the arm where exceptions are raised, and nothing of the operation besides
+numbers_same : (x y k : ℕ) → (x ≡ 0 → y ≡ 0) → (y ≡ 0 → x ≡ 0) → reply_numbers x k ≡ reply_numbers y k
+numbers_same zero zero k there here = refl
+numbers_same zero (suc y) k there here = let none = there refl in absurd cc
+numbers_same (suc x) zero k there here = let none = here refl in absurd cc
+numbers_same (suc x) (suc y) k there here = refl
+
+xdr_over : (b : Binding) (m op p k : ℕ) → (exceptions b op ≡ 0 → exceptions b p ≡ 0) → (exceptions b p ≡ 0 → exceptions b op ≡ 0)
+    → reply_lead_over back.Xdr b m op k ≡ reply_lead_over back.Xdr b m p k
+xdr_over b m op p k there here =
+    ap (λ (ns : List ℕ). λ (h : Head). words (h.id ∷ ns)) (numbers_same (exceptions b op) (exceptions b p) k there here)
+
+pub xdr_one_lead : (b : Binding) (m op p k : ℕ) → b.back ≡ back.Xdr → (exceptions b op ≡ 0 → exceptions b p ≡ 0)
+    → (exceptions b p ≡ 0 → exceptions b op ≡ 0) → reply_lead b m op k ≡ reply_lead b m p k
+xdr_one_lead b m op p k is there here =
+    subst (λ (x : Back). reply_lead_over x b m op k ≡ reply_lead_over x b m p k) (sym is) (xdr_over b m op p k there here)
+
+-- over CDR the head of an answer says nothing of the operation
+cdr_over : (x : Back) (b : Binding) (m op p : ℕ) → IsCdr x → reply_lead_over x b m op 0 ≡ reply_lead_over x b m p 0
+cdr_over back.CdrBig b m op p cdr = refl
+cdr_over back.CdrLittle b m op p cdr = refl
+cdr_over back.Xdr b m op p cdr = absurd cc
+cdr_over back.Mach b m op p cdr = absurd cc
+
+pub cdr_one_lead : (b : Binding) (m op p k : ℕ) → IsCdr b.back → k ≡ 0 → reply_lead b m op k ≡ reply_lead b m p k
+cdr_one_lead b m op p k cdr is =
+    subst (λ (j : ℕ). reply_lead b m op j ≡ reply_lead b m p j) (sym is) (cdr_over b.back b m op p cdr)
+
+-- ---- codes
+
+is_within : {A : Type 0} (xs : List A) (k : ℕ) (x : A) → slice_get xs k ≡ Some x → k < length xs
+is_within [] k x e = absurd cc
+is_within (y ∷ xs) zero x e = omega arith
+is_within (y ∷ xs) (suc k) x e = let less = is_within xs k x e in omega (arith, less)
+
+-- the code that receives what goes into another operation of the same request
+pub receives_again : (b : Binding) (m p op : ℕ) (stubs : List Stub) (s : Stub) → AreStubs b m stubs → slice_get stubs p ≡ Some s
+    → request_type b p ≡ request_type b op → Receives (encoding b.back) (request_type b op) s.recv
+receives_again b m p op stubs s are found same =
+    subst (λ (t : Ty). Receives (encoding b.back) t s.recv) same (are p s found).recv
+
+pub other_again : (b : Binding) (m p op : ℕ) (stubs : List Stub) (s : Stub) → AreStubs b m stubs → slice_get stubs p ≡ Some s
+    → request_type b p ≡ request_type b op → ReceivesOther (other_encoding b.back) (request_type b op) s.other
+other_again b m p op stubs s are found same =
+    subst (λ (t : Ty). ReceivesOther (other_encoding b.back) t s.other) same (are p s found).other
+
+-- an arm of which there is code
+pub has_arm : (b : Binding) (m p k n : ℕ) (stubs : List Stub) (s : Stub) (code : SendCode) → AreStubs b m stubs
+    → slice_get stubs p ≡ Some s → slice_get (replies_in s n) k ≡ Some code → HasArm b p k
+has_arm b m p k n stubs s code are found there = (are p s found).arms n k (is_within (replies_in s n) k code there)
+
+-- the code that sends the replies to another operation with the same head and a value of the same type
+pub sends_again : (b : Binding) (m p op k n : ℕ) (stubs : List Stub) (s : Stub) (code : SendCode) → AreStubs b m stubs
+    → slice_get stubs p ≡ Some s → slice_get (replies_in s n) k ≡ Some code → IsMinorOver b.back n
+    → reply_lead b n op k ≡ reply_lead b n p k → arm_type b p k ≡ arm_type b op k
+    → Sends b.back (reply_lead b n op k) (arm_type b op k) code
+sends_again b m p op k n stubs s code are found there version lead same =
+    let has = has_arm b m p k n stubs s code are found there in
+    let sends = kept_is b m p k n s code (are p s found) has version there in
+    subst (λ (o : Head → List ℕ). Sends b.back o (arm_type b op k) code) (sym lead)
+    (subst (λ (t : Ty). Sends b.back (reply_lead b n p k) t code) same sends)
