@@ -1,14 +1,17 @@
 -- The distinct types of a table stand for the types of its nodes.
-use Rattle.std.proofs.Common.{◌≡◌, ◌<◌, ◌⊎◌, inl, inr, ℕ, zero, suc, ◌+◌, ℤ, List, [], ◌∷◌, ◌++◌, length, map, Bool, true, Option, Some, None, option_map, Result, Ok, Err, IfOk, slice_get, refl, sym, ap, subst, ◌∙◌, arith, length-append, Bor}
+use Rattle.std.proofs.Common.{◌≡◌, ◌<◌, ◌≤◌, ◌⊎◌, inl, inr, ℕ, zero, suc, ◌+◌, ℤ, List, [], ◌∷◌, ◌++◌, length, map, Bool, true, false, nat_lt, nat_le, if◌then◌else◌, Option, Some, None, option_map, Result, Ok, Err, IfOk, slice_get, refl, sym, ap, subst, ◌∙◌, arith, length-append, Bor}
 use Rattle.std.specs.Prelude.{slice_index_or}
 use Rattle.std.specs.Option.{option_copied, IfSome}
 use Rattle.std.proofs.Math.ListN.{get_or-append}
 use Rattle.std.proofs.Math.Seq.{get_or-append_seam}
-use Rattle.std.specs.List.{AllByRecursion}
+use Rattle.std.specs.List.{AllByRecursion, list_all}
+use Rattle.std.proofs.lemmas.Bool.{lt-ltb, lt-leb}
+use Rattle.kit_base.specs.Limits.{most_nodes}
+use Rattle.mint.specs.Sound.{children_below, is_below, level_refusal, refusal, IsSound}
 use Rattle.mint.specs.declared.node.Node.{Node}
 use Rattle.mint.specs.declared.node.Node.TheVariants as node
-use Rattle.mint.specs.Types.{Ty, void_type, group_type, items_type, choice_type, maybe_type, others, at, fields_at, others_at, arms_at, scalar_of, level, unfolded, type_at, AreBelow, IsBelow, HasChildrenBelow}
-use Rattle.mint.proofs.Measuring.{length-unfolded}
+use Rattle.mint.specs.Types.{Ty, void_type, group_type, items_type, choice_type, maybe_type, others, at, fields_at, others_at, arms_at, scalar_of, level, unfolded, type_at, AreBelow, ArmsBelow, IsBelow, HasChildrenBelow}
+use Rattle.mint.proofs.Measuring.{length-unfolded, sound_level}
 use Rattle.mint.proofs.Unfolding.{unfolded-push}
 use Rattle.stub_codes.specs.Distinct.{number_in, arm_in, renumbered, Stands, AreSame}
 use Rattle.stub_codes.proofs.Following.{some_same}
@@ -63,6 +66,12 @@ pub numbered : (small nodes : List Node) (ids : List ℕ) (i : ℕ) → AreSame 
 numbered small nodes ids i same less =
     let (x, found) = item_at ids i less in
     subst (λ (y : ℕ). (y < length small) × (type_at small y ≡ type_at nodes i)) (sym (number_found ids i x found)) (same i x found)
+
+pub numbered_in : (small nodes : List Node) (ids list : List ℕ) (i x : ℕ) → AreSame small nodes ids → length ids ≡ length nodes
+    → i < length nodes → list ≡ ids → x ≡ number_in list i → (x < length small) × (type_at small x ≡ type_at nodes i)
+numbered_in small nodes ids list i x same many less is found =
+    subst (λ (y : ℕ). (y < length small) × (type_at small y ≡ type_at nodes i)) (sym (found ∙ ap (λ (l : List ℕ). number_in l i) is))
+    (numbered small nodes ids i same (omega (arith, many, less)))
 
 -- ---- one number more
 
@@ -127,3 +136,49 @@ made_more small bigger nodes ids x id n m long same is below renamed grew last =
 -- none is at a place of no list
 pub none_same : (small nodes : List Node) → AreSame small nodes []
 none_same small nodes k i e = absurd cc
+
+-- ---- a node with other numbers is not refused
+
+-- the numbers for which those below k are exchanged are below another
+abbrev Below : ℕ → List ℕ → ℕ → Type 0
+Below k ids s = (i : ℕ) → i < k → number_in ids i < s
+
+ids_below : (k s : ℕ) (ids is : List ℕ) → Below k ids s → AreBelow k is → list_all (λ i. nat_lt i s) (map (number_in ids) is) ≡ true
+ids_below k s ids [] less h = refl
+ids_below k s ids (i ∷ is) less h = rw (lt-ltb (number_in ids i) s (less i h.0), ids_below k s ids is less h.1) refl
+
+arms_below : (k s : ℕ) (ids : List ℕ) (arms : List (ℤ × ℕ)) → Below k ids s → ArmsBelow k arms
+    → list_all (λ a. nat_lt a.1 s) (map (arm_in ids) arms) ≡ true
+arms_below k s ids [] less h = refl
+arms_below k s ids (a ∷ arms) less h = rw (lt-ltb (number_in ids a.1) s (less a.1 h.0), arms_below k s ids arms less h.1) refl
+
+last_below : (k s : ℕ) (ids : List ℕ) (o : Option ℕ) → Below k ids s → IsBelow k o → is_below s (option_map (number_in ids) o) ≡ true
+last_below k s ids None less h = refl
+last_below k s ids (Some i) less h = lt-ltb (number_in ids i) s (less i h)
+
+all_below : (k s : ℕ) (ids : List ℕ) (n : Node) → Below k ids s → HasChildrenBelow k n → children_below s (renumbered ids n) ≡ true
+all_below k s ids node.Void less h = refl
+all_below k s ids (node.Num x) less h = refl
+all_below k s ids (node.Enum x) less h = refl
+all_below k s ids (node.Text c) less h = refl
+all_below k s ids (node.Row x c) less h = refl
+all_below k s ids (node.Group is) less h = ids_below k s ids is less h
+all_below k s ids (node.Items i c) less h = lt-ltb (number_in ids i) s (less i h)
+all_below k s ids (node.Choice t arms o) less h = rw (arms_below k s ids arms less h.0, last_below k s ids o less h.1) refl
+all_below k s ids (node.Maybe i) less h = lt-ltb (number_in ids i) s (less i h)
+
+pub unrefused : (small nodes : List Node) (ids : List ℕ) (id : ℕ) (n m : Node) → id ≡ length ids → AreSame small nodes ids
+    → type_at nodes id ≡ level (unfolded nodes) n → HasChildrenBelow id n → IsSound (type_at nodes id)
+    → length small ≤ length ids → id < length nodes → length nodes ≤ most_nodes → m ≡ renumbered ids n → refusal small m ≡ None
+unrefused small nodes ids id n m long same is below sound few within most renamed =
+    let agree : Agree id ids (unfolded small) (unfolded nodes) = λ i h. (numbered small nodes ids i same (subst (λ k. i < k) long h)).1 in
+    let less : Below id ids (length small) = λ i h. (numbered small nodes ids i same (subst (λ k. i < k) long h)).0 in
+    let tree = level_same id ids (unfolded small) (unfolded nodes) n agree below ∙ sym is in
+    let room : nat_le 65536 (length small) ≡ false = lt-leb 65536 (length small) (omega (arith, long, few, within, most)) in
+    let all : children_below (length small) (renumbered ids n) ≡ true = all_below id (length small) ids n less below in
+    let plain : level_refusal (level (unfolded small) (renumbered ids n)) ≡ None = ap level_refusal tree ∙ sound_level (type_at nodes id) sound in
+    subst (λ (x : Node). refusal small x ≡ None) (sym renamed) (rw (room, all, plain) refl)
+
+-- an error that is none but for memory
+pub no_other : {A : Type 0} (r : Option A) (x : A) → r ≡ None → r ≡ Some x → ⊥
+no_other r x none some = let same = sym none ∙ some in absurd cc

@@ -20,14 +20,14 @@ use Rattle.stub_codes.proofs.Places.{item_at}
 -- the code of an operation, from the codes of its request's node
 pub stub_made : (b : Binding) (m op : ℕ) (t : Ty) (first : SendCode) (s : Stub) → t ≡ request_type b op → Leads (lead b m op) first
     → SendsAfter b.back first t s.send
-    → Receives (encoding b.back) t s.recv → ReceivesOther (other_encoding b.back) t s.other
+    → Receives (encoding b.back) (request_type b op) s.recv → ReceivesOther (other_encoding b.back) (request_type b op) s.other
     → HasReplies b 0 op s.replies → ((k : ℕ) → k < length s.replies → HasArm b op k)
     → (IsCdr b.back → HasReplies b 2 op s.later) → ((k : ℕ) → k < length s.later → HasArm b op k) → IsStub b m op s
 stub_made b m op t first s same leads sends receives other replies arms later later_arms =
     record {
       send = subst (λ (u : Ty). Sends b.back (lead b m op) u s.send) same (sends (lead b m op) leads (are_heads b.back b m op));
-      recv = subst (λ (u : Ty). Receives (encoding b.back) u s.recv) same receives;
-      other = subst (λ (u : Ty). ReceivesOther (other_encoding b.back) u s.other) same other;
+      recv = receives;
+      other = other;
       replies = in_version;
       arms = λ n. arms_of (n == 0);
     } where

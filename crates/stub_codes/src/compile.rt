@@ -63,7 +63,8 @@ fn receivers_of(
         None => {
             let back = bound.back();
             let id = request_type_of(bound, types, op);
-            let recv = receiving(alloc, encoding_of(back), &low.recvs, &types.mint, id)?;
+            let code = receiving(alloc, encoding_of(back), &low.recvs, &types.mint, id)?;
+            let recv = Shared::new(alloc, code)?;
             let other = receiving_other(alloc, other_of(back), &low.others, &types.mint, id)?;
             Ok((recv, other))
         }

@@ -1,7 +1,8 @@
 //! The distinct types of a table, as a table of their own: a unit has many nodes of one type, and codes are made for a
 //! type once.
 
-ghost use Rattle.std.specs.Prelude.{◌≡◌, ◌<◌, ◌++◌, ◌∷◌, [], length, map, option_map, true, IfOk, IfSome, OnOk};
+ghost use Rattle.std.specs.Prelude.{◌≡◌, ◌≢◌, ◌<◌, ◌≤◌, ◌+◌, ◌++◌, ◌∷◌, [], length, map, option_map, true, None, IfOk, IfSome, OnOk};
+ghost use Rattle.mint.specs.Sound.{refusal};
 ghost use Rattle.mint.specs.Types.{type_at};
 ghost use Rattle.stub_codes.specs.Distinct.{arm_in, number_in, renumbered, AreSame, Stands};
 
@@ -230,14 +231,25 @@ fn keep(slots: &mut Vec<u32>, mark: u32, id: u32)
     slots[at] = id;
 }
 
-/// Appends a node of a sound type.
+/// What is reported where a table that refuses no node has no memory.
+fn reported(refused: MintErr) -> NoMemory
+    requires { (refused ≢ MintErr.NoMemory) → ⊥ }
+{
+    match refused {
+        MintErr::NoMemory => NoMemory,
+        _ => unreachable!(),
+    }
+}
+
+/// Appends a node that is not refused.
 fn add(small: &mut Mint, node: Node) -> Result<NodeId, NoMemory>
+    requires { refusal small.old node ≡ None }
     ensures ok { OnOk result (small.new ≡ small.old ++ node ∷ []) }
     ensures id { IfOk result (λ i. i ≡ length small.old) }
 {
     match small.add(node) {
         Ok(id) => Ok(id),
-        Err(_) => Err(NoMemory),
+        Err(refused) => Err(reported(refused)),
     }
 }
 
@@ -252,11 +264,14 @@ fn placed(
 ) -> Result<NodeId, NoMemory>
     requires id { id ≡ length ids.now }
     requires within { id < length mint.now }
+    requires few { length small.old ≤ length ids.now }
     requires slots { 0 < length slots.old.items }
     requires same { AreSame small.old mint.now ids.now }
     ensures same { IfOk result (λ i. AreSame small.new mint.now (ids.now ++ i ∷ [])) }
+    ensures few { OnOk result (length small.new ≤ length ids.now + 1) }
     ensures slots { length slots.new.items ≡ length slots.old.items }
 {
+    let _count = mint.len();
     let Some(node) = mint.node(id) else {
         unreachable!()
     };

@@ -1,8 +1,8 @@
 //! Codes that an earlier operation has, for an operation of which the same is promised.
 
-ghost use Rattle.std.specs.Prelude.{◌≡◌, ◌<◌, ◌≤◌, length, IfOk, IfSome, true};
+ghost use Rattle.std.specs.Prelude.{◌≡◌, ◌<◌, ◌≤◌, ℕ, length, IfOk, IfSome, true};
 ghost use Rattle.mint.specs.Types.{type_at};
-ghost use Rattle.back_cdr.specs.Targets.{IsCdr};
+ghost use Rattle.head_arms.specs.Raised.{exceptions};
 ghost use Rattle.stub_codes.specs.Backs.{encoding, other_encoding, reply_lead, IsMinorOver};
 ghost use Rattle.stub_codes.specs.Distinct.{AreSame};
 ghost use Rattle.stub_codes.specs.Messages.{request_type};
@@ -130,15 +130,29 @@ pub(crate) fn with_request<'a>(
     }
 }
 
-/// Whether the heads of replies to operations with arms are the same for that the arms have one number, and both
-/// operations raise exceptions or none, as heads over ONC say; or are answers, of which heads of GIOP say nothing.
+/// Whether both operations raise exceptions, or neither does.
+fn raise_alike(bound: &Bound, op: u32, p: u32) -> bool
+    requires op { op < length bound.now.ops }
+    requires p { p < length bound.now.ops }
+    ensures there { result ≡ true → exceptions bound.now op ≡ 0 → exceptions bound.now p ≡ 0 }
+    ensures here { result ≡ true → exceptions bound.now p ≡ 0 → exceptions bound.now op ≡ 0 }
+{
+    if exceptions_of(bound, op) == 0 {
+        exceptions_of(bound, p) == 0
+    } else {
+        exceptions_of(bound, p) > 0
+    }
+}
+
+/// Whether the heads of replies to two operations with an arm are known to be the same: over ONC they say the arm where
+/// exceptions are raised, and over CDR that of an answer says nothing of the operation.
 fn have_one_lead(bound: &Bound, op: u32, p: u32, arm: u32) -> bool
     requires op { op < length bound.now.ops }
     requires p { p < length bound.now.ops }
     ensures { result ≡ true → (m : ℕ) → reply_lead bound.now m op arm ≡ reply_lead bound.now m p arm }
 {
     match bound.back() {
-        Back::Xdr => (exceptions_of(bound, op) == 0) == (exceptions_of(bound, p) == 0),
+        Back::Xdr => raise_alike(bound, op, p),
         Back::CdrBig | Back::CdrLittle => arm == 0,
         Back::Mach => false,
     }

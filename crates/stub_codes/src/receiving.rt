@@ -36,7 +36,7 @@ pub(crate) fn receiving(
     subs: &RecvSubs,
     mint: &Mint,
     id: NodeId,
-) -> Result<Shared<RecvCode>, NoMemory>
+) -> Result<RecvCode, NoMemory>
     requires id { id < length mint.now }
     requires subs { AreReceivers enc mint.now subs.now }
     ensures { IfOk result (λ code. Receives enc (type_at mint.now id) code) }
@@ -44,7 +44,7 @@ pub(crate) fn receiving(
     mint.types_are_sound();
     let flat = inline_recv(alloc, subs, id)?;
     let rowed = rows_recv(alloc, enc, &flat, mint, id)?;
-    Shared::new(alloc, chunk_recv(alloc, &rowed, phase_of(enc))?)
+    chunk_recv(alloc, &rowed, phase_of(enc))
 }
 
 /// The same over another encoding, where there is one.
@@ -61,7 +61,10 @@ pub(crate) fn receiving_other(
 {
     match other {
         Some(enc) => match subs {
-            Some(subs) => Ok(Some(receiving(alloc, enc, subs, mint, id)?)),
+            Some(subs) => {
+                let code = receiving(alloc, enc, subs, mint, id)?;
+                Ok(Some(Shared::new(alloc, code)?))
+            }
             None => unreachable!(),
         },
         None => Ok(None),

@@ -33,7 +33,7 @@ fn made(
     op: u32,
     arm: u32,
     minor: u8,
-) -> Result<Shared<SendCode>, NoMemory>
+) -> Result<SendCode, NoMemory>
     requires op { op < length bound.now.ops }
     requires arm { HasArm bound.now op arm }
     requires minor { IsMinorOver bound.now.back minor }
@@ -45,7 +45,7 @@ fn made(
 {
     let lead = reply_lead_of(alloc, bound, op, arm, minor)?;
     let id = arm_type_of(bound, types, op, arm);
-    Shared::new(alloc, sending(alloc, bound.back(), lead, low, &types.mint, id)?)
+    sending(alloc, bound.back(), lead, low, &types.mint, id)
 }
 
 /// The code that sends the replies to an operation with an arm, in a version: that of an earlier operation where it is
@@ -80,7 +80,8 @@ fn arm_code(
         Some(code) => code.share(),
         None => {
             earlier.keep_reply(id, arm, raises, op);
-            made(alloc, bound, types, low, op, arm, minor)
+            let code = made(alloc, bound, types, low, op, arm, minor)?;
+            Shared::new(alloc, code)
         }
     }
 }

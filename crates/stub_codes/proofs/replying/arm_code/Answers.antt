@@ -1,9 +1,0 @@
-use Rattle.mint.specs.Types.{type_at}
-use Rattle.stub_codes.proofs.Chained.{reply_made}
-use Rattle.stub_codes.proofs.replying.arm_code.Goals as goal
-
-pub returns : goal.returns
-returns c =
-    let sends = rw (c.mint.ensures, c.back.ensures) at c.sending.ensures in
-    reply_made c.args.bound.now c.args.minor c.args.op c.args.arm (type_at c.args.bound.now.nodes c.arm_node-id.result) c.in_ok-lead.lead _
-    c.arm_node-id.ensures.type_ c.in_ok-lead.ensures.means sends
