@@ -29,8 +29,8 @@ use wire_def::Back;
 pub(crate) struct Earlier {
     /// For each type, an operation of whose requests it is.
     requests: Vec<u32>,
-    /// For each slot, an operation and an arm of its replies.
-    replies: Vec<(u32, u32)>,
+    /// For each slot, an operation that has such a reply.
+    replies: Vec<u32>,
 }
 
 /// The number of no operation.
@@ -41,7 +41,7 @@ impl Earlier {
     pub(crate) fn new(alloc: Global, types: usize, ops: usize) -> Result<Earlier, NoMemory> {
         Ok(Earlier {
             requests: vec![in alloc; NONE; types]?,
-            replies: vec![in alloc; (NONE, 0); types + ops + 1]?,
+            replies: vec![in alloc; NONE; types.saturating_add(ops)]?,
         })
     }
 
@@ -58,22 +58,28 @@ impl Earlier {
         }
     }
 
-    /// The slot of an arm's type and of what the head says of it.
-    fn slot(&self, id: NodeId, arm: u32, raises: bool) -> usize {
-        let mark = id.wrapping_add(arm.wrapping_mul(2654435761)).wrapping_add(u32::from(raises));
-        mark as usize % self.replies.len()
+    /// An operation that perhaps has a reply with an arm and a type.
+    pub(crate) fn reply(&self, id: NodeId, arm: u32, raises: bool) -> u32 {
+        match self.replies.get(slot_of(self.replies.len(), id, arm, raises)) {
+            Some(op) => *op,
+            None => NONE,
+        }
     }
 
-    /// An operation, and an arm of its replies, which perhaps has such a reply.
-    pub(crate) fn reply(&self, id: NodeId, arm: u32, raises: bool) -> (u32, u32) {
-        self.replies[self.slot(id, arm, raises)]
-    }
-
-    /// Keeps an operation and an arm of its replies.
+    /// Keeps an operation that has such a reply.
     pub(crate) fn keep_reply(&mut self, id: NodeId, arm: u32, raises: bool, op: u32) {
-        let at = self.slot(id, arm, raises);
-        self.replies[at] = (op, arm);
+        let at = slot_of(self.replies.len(), id, arm, raises);
+        if at < self.replies.len() {
+            self.replies[at] = op;
+        }
     }
+}
+
+/// The slot of an arm with a type, of operations that raise exceptions or of those that raise none, among so many.
+fn slot_of(slots: usize, id: NodeId, arm: u32, raises: bool) -> usize {
+    let mark = arm.wrapping_mul(2654435761).wrapping_add(id);
+    let marked = if raises { mark.wrapping_add(1) } else { mark };
+    if slots == 0 { 0 } else { marked as usize % slots }
 }
 
 /// The type of what goes into an operation, by its number.

@@ -1,6 +1,6 @@
 //! The code that receives the values of a node.
 
-ghost use Rattle.std.specs.Prelude.{ℕ, ◌<◌, length, IfOk};
+ghost use Rattle.std.specs.Prelude.{◌≡◌, ◌<◌, ℕ, length, IfOk};
 ghost use Rattle.mint.specs.Types.{type_at};
 ghost use Rattle.wire_def.specs.Places.{IsPlace};
 ghost use Rattle.chunker.specs.Phases.{AtPhase, IsPhase};

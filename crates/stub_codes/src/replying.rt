@@ -75,7 +75,7 @@ fn arm_code(
 {
     let id = arm_type_of(bound, types, op, arm);
     let raises = exceptions_of(bound, op) > 0;
-    let (p, _) = earlier.reply(id, arm, raises);
+    let p = earlier.reply(id, arm, raises);
     match with_reply(bound, types, stubs, lead, p, op, arm, minor) {
         Some(code) => code.share(),
         None => {
@@ -86,11 +86,12 @@ fn arm_code(
     }
 }
 
-/// A list without codes that has room for so many.
-fn room_for(alloc: Global, arms: usize) -> Result<Listed<Shared<SendCode>>, NoMemory>
+/// A list without codes that has room for those of the arms of an operation's reply.
+fn room_for(alloc: Global, bound: &Bound, op: u32) -> Result<Listed<Shared<SendCode>>, NoMemory>
+    requires { op < length bound.now.ops }
     ensures { IfOk result (λ codes. codes ≡ []) }
 {
-    Listed::with_room(alloc, arms)
+    Listed::with_room(alloc, arms_of(bound, op).len())
 }
 
 /// The code of each arm of an operation's reply in a version, in their order.
@@ -115,7 +116,7 @@ pub(crate) fn replies_of(
     ensures each { IfOk result (λ codes. HasReplies bound.now minor op codes) }
     ensures arms { IfOk result (λ codes. (k : ℕ) → k < length codes → HasArm bound.now op k) }
 {
-    let mut codes = room_for(alloc, arms_of(bound, op).len())?;
+    let mut codes = room_for(alloc, bound, op)?;
     for i in 0..arms_of(bound, op).len() {
         match u32::try_from(i) {
             Ok(arm) => codes.push(arm_code(

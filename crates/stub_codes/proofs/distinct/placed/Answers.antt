@@ -1,3 +1,4 @@
+use Rattle.std.proofs.Common.{arith}
 use Rattle.stub_codes.proofs.Alike.{found_more, made_more, unrefused}
 use Rattle.stub_codes.proofs.distinct.placed.Goals as goal
 
@@ -10,7 +11,7 @@ pub add-requires : goal.add-requires
 add-requires c =
     unrefused c.args.small.now c.args.mint.now c.args.ids.now c.args.id c.in-Some.node.now c.in_ok-renumber.field-0
     c.requires.id c.requires.same c.in-Some.ensures.is c.in-Some.ensures.below c.in-Some.ensures.sound c.requires.few c.requires.within
-    c.len-count.ensures.most c.in_ok-renumber.ensures
+    (omega (arith, c.len-count.ensures.value, c.len-count.ensures.most)) c.in_ok-renumber.ensures
 
 pub returns-clause-same : goal.returns-clause-same
 returns-clause-same c =

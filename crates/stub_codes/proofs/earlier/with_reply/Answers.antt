@@ -1,5 +1,4 @@
 use Rattle.std.proofs.Common.{◌≡◌, ℕ, sym, subst, ap, ◌∙◌}
-use Rattle.std.proofs.lemmas.Bool.{eqb-true}
 use Rattle.mint.specs.Types.{type_at}
 use Rattle.stub_codes.proofs.Again.{has_arm, sends_again}
 use Rattle.stub_codes.proofs.earlier.with_reply.Goals as goal
@@ -11,7 +10,7 @@ arm_type_of-requires-clause-arm c =
 
 pub returns-then-arm_type_of : goal.returns-then-arm_type_of
 returns-then-arm_type_of c =
-    let one : c.arm_type_of.result ≡ c.arm_type_of-then-have_one_lead.result = eqb-true _ _ c.if-arm_type_of.true in
+    let one : c.arm_type_of.result ≡ c.arm_type_of-then-have_one_lead.result = c.if-arm_type_of.true in
     sends_again c.args.bound.now c.args._lead c.args.p c.args.op c.args.arm c.args.minor c.args.stubs.now c.in-Some.stub.now
     c.in-Some-get.code.now c.requires.stubs (sym c.in-Some.ensures) (sym (rw (c.replies_in.ensures) at c.in-Some-get.ensures))
     c.requires.minor (c.have_one_lead.ensures c.if-have_one_lead.true c.args.minor)
