@@ -1,5 +1,5 @@
 -- Codes of an earlier operation, for another of which the same is promised.
-use Rattle.std.proofs.Common.{◌≡◌, ◌<◌, ℕ, zero, suc, List, [], ◌∷◌, length, Some, slice_get, refl, sym, ap, subst, ◌∙◌, arith}
+use Rattle.std.proofs.Common.{◌≡◌, ◌<◌, ℕ, zero, suc, List, [], ◌∷◌, length, Some, slice_get, refl, sym, ap, subst, arith}
 use Rattle.mint.specs.Types.{Ty}
 use Rattle.wire_def.specs.declared.encoding.Back.{Back}
 use Rattle.wire_def.specs.declared.encoding.Back.TheVariants as back
@@ -16,7 +16,7 @@ use Rattle.stub_codes.specs.Messages.{request_type}
 use Rattle.stub_codes.specs.Receiving.{Receives, ReceivesOther}
 use Rattle.stub_codes.specs.Replies.{HasArm, arm_type}
 use Rattle.stub_codes.specs.Sending.{Sends}
-use Rattle.stub_codes.specs.Stubs.{AreStubs, IsStub, replies_in}
+use Rattle.stub_codes.specs.Stubs.{AreStubs, replies_in}
 use Rattle.stub_codes.proofs.Done.{kept_is}
 
 -- ---- heads of replies that are the same

@@ -1,7 +1,5 @@
 -- The distinct types of a table stand for the types of its nodes.
-use Rattle.std.proofs.Common.{◌≡◌, ◌<◌, ◌≤◌, ◌⊎◌, inl, inr, ℕ, zero, suc, ◌+◌, ℤ, List, [], ◌∷◌, ◌++◌, length, map, Bool, true, false, nat_lt, nat_le, if◌then◌else◌, Option, Some, None, option_map, Result, Ok, Err, IfOk, slice_get, refl, sym, ap, subst, ◌∙◌, arith, length-append, Bor}
-use Rattle.std.specs.Prelude.{slice_index_or}
-use Rattle.std.specs.Option.{option_copied, IfSome}
+use Rattle.std.proofs.Common.{◌≡◌, ◌<◌, ◌≤◌, ◌⊎◌, inl, inr, ℕ, zero, suc, ℤ, List, [], ◌∷◌, ◌++◌, length, map, true, false, nat_lt, nat_le, Option, Some, None, option_map, slice_get, refl, sym, ap, subst, ◌∙◌, arith, length-append}
 use Rattle.std.proofs.Math.ListN.{get_or-append}
 use Rattle.std.proofs.Math.Seq.{get_or-append_seam}
 use Rattle.std.specs.List.{AllByRecursion, list_all}
@@ -176,7 +174,8 @@ unrefused small nodes ids id n m long same is below sound few within most rename
     let tree = level_same id ids (unfolded small) (unfolded nodes) n agree below ∙ sym is in
     let room : nat_le 65536 (length small) ≡ false = lt-leb 65536 (length small) (omega (arith, long, few, within, most)) in
     let all : children_below (length small) (renumbered ids n) ≡ true = all_below id (length small) ids n less below in
-    let plain : level_refusal (level (unfolded small) (renumbered ids n)) ≡ None = ap level_refusal tree ∙ sound_level (type_at nodes id) sound in
+    let plain : level_refusal (level (unfolded small) (renumbered ids n)) ≡ None =
+    ap level_refusal tree ∙ sound_level (type_at nodes id) sound in
     subst (λ (x : Node). refusal small x ≡ None) (sym renamed) (rw (room, all, plain) refl)
 
 -- an error that is none but for memory

@@ -12,7 +12,7 @@ pub mod ReplyTypes
 mod Numbering
 -- * The arms of a reply above 0 are as many as its operation's exceptions, and over CDR as their ids, by induction on the interfaces
 pub mod ArmIds
--- * The distinct types of a table stand for the types of its nodes, by induction on the parts of a node
+-- * The distinct types of a table stand for the types of its nodes
 mod Alike
 -- * The codes of operations and of their arms, one after the other
 mod Chained

@@ -1,5 +1,5 @@
 -- The distinct types of a table, as a table of their own.
-use Rattle.std.specs.Prelude.{◌≡◌, ◌<◌, ℕ, ℤ, List, map, length, Option, Some, option_map, slice_get, slice_index_or}
+use Rattle.std.specs.Prelude.{◌≡◌, ◌<◌, ℕ, ℤ, List, map, length, Some, option_map, slice_get, slice_index_or}
 use Rattle.mint.specs.Types.{level, type_at, unfolded}
 use Rattle.mint.specs.declared.node.Node.{Node}
 use Rattle.mint.specs.declared.node.Node.TheVariants as node

@@ -293,7 +293,14 @@ pub(crate) fn distinct_of(alloc: Global, mint: &Mint) -> Result<Distinct, NoMemo
     let mut ids = NodeIds::with_room(alloc, mint.len())?;
     let mut slots = vec![in alloc; NONE; 2 * mint.len() + 1]?;
     for i in 0..mint.len() {
-        let id = placed(alloc, mint, i as u32, ids.as_slice(), &mut small, &mut slots)?;
+        let id = placed(
+            alloc,
+            mint,
+            i as u32,
+            ids.as_slice(),
+            &mut small,
+            &mut slots,
+        )?;
         ids.push(id)?;
     }
     Ok(Distinct { mint: small, ids })

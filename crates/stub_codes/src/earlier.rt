@@ -60,7 +60,8 @@ impl Earlier {
 
     /// An operation that perhaps has a reply with an arm and a type.
     pub(crate) fn reply(&self, id: NodeId, arm: u32, raises: bool) -> u32 {
-        match self.replies.get(slot_of(self.replies.len(), id, arm, raises)) {
+        let at = slot_of(self.replies.len(), id, arm, raises);
+        match self.replies.get(at) {
             Some(op) => *op,
             None => NONE,
         }
@@ -79,7 +80,11 @@ impl Earlier {
 fn slot_of(slots: usize, id: NodeId, arm: u32, raises: bool) -> usize {
     let mark = arm.wrapping_mul(2654435761).wrapping_add(id);
     let marked = if raises { mark.wrapping_add(1) } else { mark };
-    if slots == 0 { 0 } else { marked as usize % slots }
+    if slots == 0 {
+        0
+    } else {
+        marked as usize % slots
+    }
 }
 
 /// The type of what goes into an operation, by its number.

@@ -1,4 +1,4 @@
-use Rattle.std.proofs.Common.{ℕ, List, [], ◌∷◌, ◌++◌, length, ap, sym, subst, ◌∙◌, arith, length-append}
+use Rattle.std.proofs.Common.{ℕ, List, [], ◌∷◌, ◌++◌, length, ap, sym, subst, arith, length-append}
 use Rattle.stub_codes.specs.Distinct.{AreSame}
 use Rattle.stub_codes.proofs.distinct.distinct_of.Goals as goal
 

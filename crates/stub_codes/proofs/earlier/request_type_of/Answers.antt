@@ -4,11 +4,11 @@ use Rattle.stub_codes.proofs.earlier.request_type_of.Goals as goal
 
 pub returns-clause-id : goal.returns-clause-id
 returns-clause-id c =
-    (numbered_in c.args.types.now.mint c.args.bound.now.nodes c.args.types.now.ids c.as_slice.result.now c.request_of.result c.number_in.result
-    c.requires.same c.requires.many c.request_of.ensures.node c.as_slice.ensures c.number_in.ensures).0
+    (numbered_in c.args.types.now.mint c.args.bound.now.nodes c.args.types.now.ids c.as_slice.result.now c.request_of.result
+    c.number_in.result c.requires.same c.requires.many c.request_of.ensures.node c.as_slice.ensures c.number_in.ensures).0
 
 pub returns-clause-type_ : goal.returns-clause-type_
 returns-clause-type_ c =
-    (numbered_in c.args.types.now.mint c.args.bound.now.nodes c.args.types.now.ids c.as_slice.result.now c.request_of.result c.number_in.result
-    c.requires.same c.requires.many c.request_of.ensures.node c.as_slice.ensures c.number_in.ensures).1
+    (numbered_in c.args.types.now.mint c.args.bound.now.nodes c.args.types.now.ids c.as_slice.result.now c.request_of.result
+    c.number_in.result c.requires.same c.requires.many c.request_of.ensures.node c.as_slice.ensures c.number_in.ensures).1
     ∙ c.request_of.ensures.type_

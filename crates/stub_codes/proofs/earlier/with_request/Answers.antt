@@ -1,4 +1,4 @@
-use Rattle.std.proofs.Common.{◌≡◌, ℕ, sym, subst, ap, ◌∙◌}
+use Rattle.std.proofs.Common.{◌≡◌, sym, ap, ◌∙◌}
 use Rattle.mint.specs.Types.{type_at}
 use Rattle.stub_codes.proofs.Again.{receives_again, other_again}
 use Rattle.stub_codes.proofs.earlier.with_request.Goals as goal

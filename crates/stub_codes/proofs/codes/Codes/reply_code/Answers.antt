@@ -9,9 +9,13 @@ unreachable-requires c =
     c.requires.arm c.requires.minor (sym (rw (c.replies_in.ensures) at c.get.ensures) ∙ ap option_copied c.in-None.is)
 
 pub returns-clause-found : goal.returns-clause-found
-returns-clause-found c = kept_at c.args.self.now.stubs c.args.op c.args.arm c.args.minor c.stub.result.now c.in-Some.code.now
-    c.stub.ensures.found (sym (rw (c.replies_in.ensures) at c.in-Some.ensures))
+returns-clause-found c =
+    rw (c.get-in-Some.ensures)
+    (kept_at c.args.self.now.stubs c.args.op c.args.arm c.args.minor c.stub.result.now c.in-Some.code.now
+    c.stub.ensures.found (sym (rw (c.replies_in.ensures) at c.in-Some.ensures)))
 
 pub returns-clause-sends : goal.returns-clause-sends
-returns-clause-sends c = kept_is c.args.self.now.binding c.args.self.now.minor c.args.op c.args.arm c.args.minor c.stub.result.now
-    c.in-Some.code.now c.stub.ensures.is c.requires.arm c.requires.minor (sym (rw (c.replies_in.ensures) at c.in-Some.ensures))
+returns-clause-sends c =
+    rw (c.get-in-Some.ensures)
+    (kept_is c.args.self.now.binding c.args.self.now.minor c.args.op c.args.arm c.args.minor c.stub.result.now
+    c.in-Some.code.now c.stub.ensures.is c.requires.arm c.requires.minor (sym (rw (c.replies_in.ensures) at c.in-Some.ensures)))
