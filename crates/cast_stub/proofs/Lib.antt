@@ -1,5 +1,7 @@
 -- The proofs, each after those that it uses; * marks those that the proofs of functions use.
 
+-- * What is appended to octets that stand around a piece, and what is left of them
+pub mod Around
 -- * A code after a code, and an operation as a piece before others, by induction on the first code
 pub mod Appending
 -- * A receive code after a receive code, and an operation as a piece before others, by induction on the first code

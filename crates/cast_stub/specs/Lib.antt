@@ -1,4 +1,5 @@
 pub mod Append
+pub mod Around
 pub mod Bare
 pub mod Block
 pub mod CallFree

@@ -1,7 +1,7 @@
 //! Octets of a constant, of which a long piece is kept once for many constants.
 
-ghost use Rattle.std.specs.Prelude.{◌≡◌, ◌<◌, ◌≤◌, ◌^◌, ◌++◌, [], length, drop, take, IfOk, OnOk};
-ghost use Rattle.std.specs.Option.{option_map_or};
+ghost use Rattle.std.specs.Prelude.{◌≡◌, ◌<◌, ◌≤◌, ◌^◌, ◌++◌, true, false, length, drop, take, is_none, IfOk, OnOk};
+ghost use Rattle.cast_stub.specs.Around.{around};
 
 use kit_base::{NoMemory, Octets};
 use kit_shared::Shared;
@@ -11,33 +11,31 @@ use std::marker::Model;
 /// The octets of the shortest piece that is kept once.
 const LONG: usize = 64;
 
-/// Octets that are stored as they are, which contracts see as their list: the first, a long piece that may have more
-/// owners, and those after it.
+/// Octets that are stored as they are, which contracts see as their list: those of its own, and a long piece that may
+/// have more owners, which stands before the own octets from a place on.
 #[derive(Drop)]
 pub struct Constant {
-    front: Octets,
+    own: Octets,
     piece: Option<Shared<Octets>>,
-    rest: Octets,
+    at: usize,
 }
 
 impl Model for Constant {
-    ghost use Rattle.std.specs.Prelude.{◌++◌, [], List, ℕ};
-    ghost use Rattle.std.specs.Option.{option_map_or};
+    ghost use Rattle.std.specs.Prelude.{◌≤◌, List, ℕ, length};
+    ghost use Rattle.cast_stub.specs.Around.{around};
 
     ghost Value = { List ℕ };
 
-    ghost view = { λ c. c.front ++ (option_map_or (λ o. o) c.piece [] ++ c.rest) };
+    ghost view = { λ c. around c.own c.at c.piece };
+
+    ghost invariant = { λ c. c.at ≤ length c.own };
 }
 
-/// The octets of a piece, if there is one.
-#[inline(always)]
-fn octets_of(piece: &Option<Shared<Octets>>) -> &[u8]
-    ensures { result.now ≡ option_map_or (λ o. o) piece.now [] }
+/// Whether a place among octets is none behind a piece, if there is one.
+fn stands_before(many: usize, at: usize, piece: &Option<Shared<Octets>>) -> bool
+    ensures { result ≡ true → is_none piece.now ≡ false → many ≤ at }
 {
-    match piece {
-        Some(piece) => piece.as_slice(),
-        None => &[],
-    }
+    piece.is_none() || many <= at
 }
 
 impl Constant {
@@ -46,9 +44,9 @@ impl Constant {
         ensures { result ≡ octets }
     {
         Constant {
-            front: octets,
+            own: octets,
             piece: None,
-            rest: Octets::new(alloc),
+            at: 0,
         }
     }
 
@@ -57,11 +55,11 @@ impl Constant {
     pub fn pieces(&self) -> (&[u8], &[u8], &[u8])
         ensures { self.now ≡ result.0.now ++ (result.1.now ++ result.2.now) }
     {
-        (
-            self.front.as_slice(),
-            octets_of(&self.piece),
-            self.rest.as_slice(),
-        )
+        let own = self.own.as_slice();
+        match &self.piece {
+            Some(piece) => (&own[..self.at], piece.as_slice(), &own[self.at..]),
+            None => (own, &[], &[]),
+        }
     }
 
     /// How many octets there are.
@@ -74,46 +72,51 @@ impl Constant {
     }
 
     /// Appends octets.
+    #[tactic(auto, using(crate::proofs::Around::appended))]
     pub fn append(&mut self, octets: &[u8]) -> Result<(), NoMemory>
         ensures { OnOk result (self.new ≡ self.old ++ octets.now) }
     {
-        if self.piece.is_none() && self.rest.len() == 0 {
-            self.front.append(octets)?;
-        } else {
-            self.rest.append(octets)?;
-        }
+        self.own.append(octets)?;
         Ok(())
     }
 
     /// Appends a piece, of which this is one more owner where it is long and the first such piece.
+    #[tactic(auto, using(crate::proofs::Around::at_the_end))]
     pub fn append_shared(&mut self, piece: &Shared<Octets>) -> Result<(), NoMemory>
         ensures { OnOk result (self.new ≡ self.old ++ piece.now) }
     {
         let own = &mut self.piece;
-        if piece.len() >= LONG && own.is_none() && self.rest.len() == 0 {
+        if piece.len() >= LONG && own.is_none() {
+            self.at = self.own.len();
             *own = Some(piece.share()?);
             return Ok(());
         }
         self.append(piece.as_slice())
     }
 
-    /// Appends a piece, if there is one.
-    fn append_piece(&mut self, piece: &Option<Shared<Octets>>) -> Result<(), NoMemory>
-        ensures { OnOk result (self.new ≡ self.old ++ option_map_or (λ o. o) piece.now []) }
+    /// Appends octets, with a piece between them, if there is one.
+    fn append_around(
+        &mut self,
+        own: &[u8],
+        at: usize,
+        piece: &Option<Shared<Octets>>,
+    ) -> Result<(), NoMemory>
+        requires { at ≤ length own.now }
+        ensures { OnOk result (self.new ≡ self.old ++ around own.now at piece.now) }
     {
-        match piece {
-            Some(piece) => self.append_shared(piece),
-            None => Ok(()),
-        }
+        let Some(piece) = piece else {
+            return self.append(own);
+        };
+        self.append(&own[..at])?;
+        self.append_shared(piece)?;
+        self.append(&own[at..])
     }
 
     /// Appends the octets of a constant.
     pub fn append_all(&mut self, other: &Constant) -> Result<(), NoMemory>
         ensures { OnOk result (self.new ≡ self.old ++ other.now) }
     {
-        self.append(other.front.as_slice())?;
-        self.append_piece(&other.piece)?;
-        self.append(other.rest.as_slice())
+        self.append_around(other.own.as_slice(), other.at, &other.piece)
     }
 
     /// The same octets.
@@ -141,8 +144,9 @@ impl Constant {
         requires { many ≤ length self.now }
         ensures { IfOk result (λ o. o ≡ take many self.now) }
     {
-        if many <= self.front.len() {
-            return Octets::from_slice(alloc, &self.front.as_slice()[..many]);
+        let (front, _, _) = self.pieces();
+        if many <= front.len() {
+            return Octets::from_slice(alloc, &front[..many]);
         }
         let whole = self.whole(alloc)?;
         Octets::from_slice(alloc, &whole.as_slice()[..many])
@@ -153,11 +157,10 @@ impl Constant {
         requires { many ≤ length self.now }
         ensures { IfOk result (λ c. c ≡ drop many self.now) }
     {
-        if many <= self.front.len() {
-            let front = Octets::from_slice(alloc, &self.front.as_slice()[many..])?;
-            let mut after = Constant::of(alloc, front);
-            after.append_piece(&self.piece)?;
-            after.append(self.rest.as_slice())?;
+        if stands_before(many, self.at, &self.piece) {
+            let at = self.at.saturating_sub(many);
+            let mut after = Constant::of(alloc, Octets::new(alloc));
+            after.append_around(&self.own.as_slice()[many..], at, &self.piece)?;
             return Ok(after);
         }
         let whole = self.whole(alloc)?;
