@@ -12,6 +12,7 @@ use Rattle.aoi.specs.declared.interfaces.Operation.{Operation}
 use Rattle.aoi.specs.declared.interfaces.Raise.{Raise}
 use Rattle.aoi.specs.Shapes.{Shape, void, number, enumeration, text, array, structure, choice, optional, named, Members, no_more, member, Arms, no_default, default, arm, seen, members, shapes}
 use Rattle.aoi.specs.Units.{Parts}
+pub use Rattle.aoi.specs.Names.{names_of}
 
 -- names of which no two are equal
 abbrev pub are_distinct : List (List ℕ) → Bool
@@ -27,11 +28,6 @@ are_different (n ∷ ns) = not (list_any (λ m. int_eq m n) ns) && are_different
 abbrev pub count_different : List ℤ → ℕ
 count_different [] = 0
 count_different (n ∷ ns) = (if list_any (λ m. int_eq m n) ns then 0 else 1) + count_different ns
-
--- the names of fields
-abbrev pub names_of : Members → List (List ℕ)
-names_of no_more = []
-names_of (member n s ms) = n ∷ names_of ms
 
 -- the numbers of arms
 abbrev pub numbers_of : Arms → List ℤ

@@ -1,6 +1,6 @@
 //! Interfaces and their operations. What operations have in common is kept once.
 
-use crate::{Fields, Ty};
+use crate::{Fields, RaiseFields, Ty};
 use kit_base::{Listed, Name};
 use kit_shared::Shared;
 
@@ -12,7 +12,7 @@ pub struct Raise {
     /// The repository id that messages have for it.
     pub id: Shared<Name>,
     /// Its members, as those of a struct.
-    pub members: Shared<Fields>,
+    pub members: Shared<RaiseFields>,
 }
 
 /// The exceptions that an operation raises.

@@ -4,12 +4,14 @@
 mod distinct;
 mod faults;
 mod interfaces;
+mod raise_fields;
 mod soundness;
 mod types;
 mod units;
 
 pub use faults::{NameErr, NameFault};
 pub use interfaces::{Interface, Interfaces, Operation, Operations, Raise, Raises};
+pub use raise_fields::RaiseFields;
 pub use soundness::{is_sound, unfolded};
 pub use types::{Counts, Field, Fields, Items, Ty, Types, UnionArms};
 pub use units::{Unit, UnitErr};

@@ -286,7 +286,7 @@ fn are_of_tag(tag: &Ty, arms: &[(i128, Ty)]) -> bool
 fn is_sound_raise(types: &[(Name, Ty)], raise: &Raise) -> bool
     ensures { result ≡ is_sound_raise (shapes types.now) raise.now }
 {
-    let members = raise.members.as_slice();
+    let members = raise.members.get().as_slice();
     are_fields_distinct(members) && are_sound(members, types, types.len())
 }
 

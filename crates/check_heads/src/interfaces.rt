@@ -1,6 +1,8 @@
 //! Interfaces over back ends that no command has yet, or with what no front end reads yet.
 
-use aoi::{Field, Fields, Interface, Operation, Operations, Raise, Raises, Ty, Unit, is_sound};
+use aoi::{
+    Field, Fields, Interface, Operation, Operations, Raise, RaiseFields, Raises, Ty, Unit, is_sound,
+};
 use check_rows::Bad;
 use kit_base::{Name, NoMemory};
 use kit_shared::Shared;
@@ -29,10 +31,11 @@ fn one_field(alloc: Global, text: &[u8], ty: Ty) -> Result<Fields, NoMemory> {
 /// The exception `E` of one text.
 fn exception(alloc: Global) -> Result<Raises, NoMemory> {
     let mut raises = Raises::new(alloc);
+    let why = one_field(alloc, b"why", Ty::Text(Count::Any))?;
     raises.push(Raise {
         name: shared_name(alloc, b"E")?,
         id: shared_name(alloc, b"IDL:E:1.0")?,
-        members: Shared::new(alloc, one_field(alloc, b"why", Ty::Text(Count::Any))?)?,
+        members: Shared::new(alloc, RaiseFields::new(why))?,
     })?;
     Ok(raises)
 }

@@ -9,7 +9,7 @@ ghost use Rattle.corba_shapes.specs.Structs.{struct_on, slashed, repository, rai
 
 use crate::fields::members;
 use crate::state::Shapes;
-use aoi::{Fields, NameErr, Raise};
+use aoi::{Fields, NameErr, Raise, RaiseFields};
 use corba_decls::{Exception, Struct};
 use corba_scopes::{Meaning, full_name, innermost, inside};
 use idl_names::{Tag, struct_of, want};
@@ -74,7 +74,7 @@ fn raised(alloc: Global, full: Name, fields: Fields) -> Result<Raise, NoMemory>
     Ok(Raise {
         id: Shared::new(alloc, repository(alloc, full.as_slice())?)?,
         name: Shared::new(alloc, full)?,
-        members: Shared::new(alloc, fields)?,
+        members: Shared::new(alloc, RaiseFields::new(fields))?,
     })
 }
 

@@ -2,7 +2,8 @@
 use Rattle.std.specs.Prelude.{◌≡◌, ℕ, ℤ, List, [], ◌∷◌, map, Option, Some, None, String, if◌then◌else◌, option_map, string_bytes}
 use Rattle.std.specs.BTreeMap.{BTreeMap, get, get_by_text}
 use Rattle.std.specs.Ordering.{int_cmp, int_eq}
-use Rattle.std.specs.Str.{IsAscii, bytes_eq, encode_utf8_all}
+use Rattle.std.specs.Str.{bytes_eq, encode_utf8_all}
+pub use Rattle.aoi.specs.Names.{AreAscii}
 
 -- the items of an enum, each with its number
 abbrev pub ItemList : Type 0
@@ -21,11 +22,6 @@ number_named (i ∷ items) s = if bytes_eq (text_of i.0) s then Some i.1 else nu
 abbrev pub text_numbered : ItemList → ℤ → Option (List ℕ)
 text_numbered [] n = None
 text_numbered (i ∷ items) n = if int_eq i.1 n then Some (text_of i.0) else text_numbered items n
-
--- names of ASCII
-abbrev pub AreAscii : List (List ℕ) → Type 0
-AreAscii [] = Unit {0}
-AreAscii (n ∷ ns) = IsAscii n × AreAscii ns
 
 -- the strings of names
 abbrev pub texts_of : List (List ℕ) → List (List ℕ)

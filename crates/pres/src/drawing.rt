@@ -15,7 +15,7 @@ use crate::elements::Element;
 use crate::naming::{copy_items, field_names, member_names};
 use crate::sorting::{labels_of, put_arm};
 use crate::{BindErr, FieldTable, ItemTable, Shape};
-use aoi::{Field, Fields, Items, Ty};
+use aoi::{Field, Items, RaiseFields, Ty};
 use kit_base::NoMemory;
 use kit_shared::Shared;
 use mint::kind::Count;
@@ -165,7 +165,7 @@ impl Draft {
     pub(crate) fn draw_exception(
         &mut self,
         alloc: Global,
-        fields: &Shared<Fields>,
+        fields: &Shared<RaiseFields>,
     ) -> Result<NodeId, BindErr>
         requires { IsTrue (is_drawable (length (known self.old)) (structure (members fields.now))) }
         ensures grows { OnOk result
@@ -176,7 +176,7 @@ impl Draft {
             (λ e. Overflows (drawn self.old ++ made (known self.old) (structure (members fields.now))) e) }
     {
         let names = member_names(alloc, fields)?;
-        self.draw_group(alloc, fields.as_slice(), names)
+        self.draw_group(alloc, fields.get().as_slice(), names)
     }
 
     /// Draws the nodes of fields, and gives theirs in order.

@@ -8,7 +8,7 @@ ghost use Rattle.pres.specs.Fielded.{AreTexts, names_held};
 ghost use Rattle.pres.specs.Tables.{AreAscii, text_of, texts_of};
 
 use crate::texts::text_of;
-use aoi::{Field, Fields};
+use aoi::{Field, RaiseFields};
 use kit_base::{Listed, NoMemory, Octets, Words};
 use kit_shared::Shared;
 use std::alloc::Global;
@@ -19,7 +19,7 @@ use std::marker::Model;
 #[derive(Drop)]
 pub struct FieldTable {
     own: Words,
-    fields: Option<Shared<Fields>>,
+    fields: Option<Shared<RaiseFields>>,
     texts: Option<Listed<String>>,
 }
 
@@ -67,18 +67,6 @@ fn strings(alloc: Global, names: &[Octets]) -> Result<Option<Listed<String>>, No
     Ok(Some(texts_of(alloc, names)?))
 }
 
-/// Whether the names of fields are of ASCII.
-pub(crate) fn are_plain(fields: &[Field]) -> bool
-    ensures { result ≡ true → AreAscii (names_of (members fields.now)) }
-{
-    for field in fields {
-        if !field.name.as_slice().is_ascii() {
-            return false;
-        }
-    }
-    true
-}
-
 /// Octets of ASCII as a string.
 fn as_text(octets: &[u8]) -> &str
     requires { IsAscii octets.now }
@@ -104,7 +92,10 @@ impl FieldTable {
     }
 
     /// A table of the names of fields that are of ASCII, of which this is one more owner.
-    pub(crate) fn shared(alloc: Global, fields: &Shared<Fields>) -> Result<FieldTable, NoMemory>
+    pub(crate) fn shared(
+        alloc: Global,
+        fields: &Shared<RaiseFields>,
+    ) -> Result<FieldTable, NoMemory>
         requires { AreAscii (names_of (members fields.now)) }
         ensures { IfOk result (λ t. t ≡ names_of (members fields.now)) }
     {
@@ -158,22 +149,22 @@ fn name_at(fields: &[Field], i: usize) -> &[u8]
 }
 
 /// How many names are held.
-fn held_len(own: &Words, fields: &Option<Shared<Fields>>) -> usize
+fn held_len(own: &Words, fields: &Option<Shared<RaiseFields>>) -> usize
     ensures { result ≡ length (names_held own.now fields.now) }
 {
     match fields {
-        Some(fields) => count_of(fields.as_slice()),
+        Some(fields) => count_of(fields.get().as_slice()),
         None => own.len(),
     }
 }
 
 /// The name that is held at a place.
-fn held_name<'a>(own: &'a Words, fields: &'a Option<Shared<Fields>>, i: usize) -> &'a [u8]
+fn held_name<'a>(own: &'a Words, fields: &'a Option<Shared<RaiseFields>>, i: usize) -> &'a [u8]
     requires { i < length (names_held own.now fields.now) }
     ensures { result.now ≡ slice_index_or (names_held own.now fields.now) i [] }
 {
     match fields {
-        Some(fields) => name_at(fields.as_slice(), i),
+        Some(fields) => name_at(fields.get().as_slice(), i),
         None => own.as_slice()[i].as_slice(),
     }
 }

@@ -6,10 +6,9 @@ ghost use Rattle.aoi.specs.Sound.{are_distinct, names_of};
 ghost use Rattle.pres.specs.Faces.{item, sign_of};
 ghost use Rattle.pres.specs.Named.{IsTagShape};
 
-use crate::fields::are_plain;
 use crate::sorting::labels_of;
 use crate::{FieldTable, ItemTable, Shape};
-use aoi::{Field, Fields, Items};
+use aoi::{Field, Items, RaiseFields};
 use kit_base::{Name, NoMemory, Words};
 use kit_shared::Shared;
 use mint::node::Tag;
@@ -44,13 +43,16 @@ pub(crate) fn field_names(alloc: Global, fields: &[Field]) -> Result<FieldTable,
 }
 
 /// The names of an exception's members, which are copied where one is not of ASCII alone.
-pub(crate) fn member_names(alloc: Global, fields: &Shared<Fields>) -> Result<FieldTable, NoMemory>
+pub(crate) fn member_names(
+    alloc: Global,
+    fields: &Shared<RaiseFields>,
+) -> Result<FieldTable, NoMemory>
     ensures { IfOk result (λ ws. ws ≡ names_of (members fields.now)) }
 {
-    if are_plain(fields.as_slice()) {
+    if fields.get().are_ascii() {
         return FieldTable::shared(alloc, fields);
     }
-    field_names(alloc, fields.as_slice())
+    field_names(alloc, fields.get().as_slice())
 }
 
 /// A copy of the items of an enum.
