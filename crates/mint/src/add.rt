@@ -1,6 +1,6 @@
 //! Adding a node to a table.
 
-ghost use Rattle.std.specs.Prelude.{◌≢◌, ◌≡◌, ◌∷◌, [], ◌++◌, ◌<◌, ◌≤◌, ◌+◌, length, IfOk, IfErr, OnOk, OnErr, None, Some, nat_lt};
+ghost use Rattle.std.specs.Prelude.{◌≢◌, ◌≡◌, ◌∷◌, [], ◌++◌, ◌<◌, ◌≤◌, ◌+◌, length, IfOk, IfErr, IfSome, OnOk, OnErr, None, Some, Err, nat_lt};
 ghost use Rattle.std.specs.List.{list_all};
 ghost use Rattle.kit_base.specs.Limits.{deepest};
 ghost use Rattle.mint.specs.Blank.{blank, depth, fields_depth, arms_depth, least, blanks, blank_arm};
@@ -25,6 +25,7 @@ impl Mint {
         ensures id { IfOk result (λ id. id ≡ length self.old) }
         ensures taken { OnOk result (refusal self.old node ≡ None) }
         ensures cause { IfErr result (λ e. e ≢ MintErr.NoMemory → refusal self.old node ≡ Some e) }
+        ensures refused { IfSome (refusal self.old node) (λ e. result ≡ Err e) }
         ensures err { OnErr result (self.new ≡ self.old) }
     {
         let id = self.len() as NodeId;
