@@ -6,7 +6,7 @@ use mint::node::Node;
 use mint::table::{Mint, NodeId};
 
 /// How many steps there are for each octet of a text.
-const STEPS_EACH: u64 = 8;
+const STEPS_EACH: u64 = 16;
 
 /// How many there are besides.
 const STEPS_MORE: u64 = 2_000_000;
