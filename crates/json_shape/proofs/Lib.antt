@@ -28,7 +28,7 @@ pub mod Written
 pub mod Naming
 -- * Names and exceptions of operations, by induction on the list
 pub mod Sources
--- * Strings that begin with the string of octets
+-- * Strings that begin with the string of octets, and what comes after it
 pub mod Passing
 -- * Names and strings of ASCII, by induction on the octets
 pub mod Plain

@@ -5,7 +5,8 @@ use Rattle.std.proofs.lemmas.Bool.Decides.{Decides-eqb}
 use Rattle.std.proofs.lemmas.Str.{encode_same, encodes-append, encodes-IsAscii, length-le-encodes, IsAscii-take, IsCharBoundary-after_ascii}
 use Rattle.std.proofs.lemmas.Slice.Eq.{bytes_eq-Decides}
 use Rattle.json_shape.specs.Texts.{text_of}
-use Rattle.json_shape.proofs.Passing.{never_empty, peeled}
+use Rattle.pres.proofs.Passing.{never_empty, too_long}
+use Rattle.json_shape.proofs.Passing.{peeled}
 use Rattle.std.proofs.lemmas.Bool.{false_from_ne_true}
 
 -- octets with one string are the same
@@ -23,21 +24,12 @@ same_test true false f g = sym (f refl)
 same_test false true f g = g refl
 same_test false false f g = refl
 
-pub plain_name : (name text : List ℕ) → IsAscii name → bytes_eq (text_of name) text ≡ bytes_eq name text
-plain_name name text h = ap (λ (t : List ℕ). bytes_eq t text) (encodes-IsAscii name h)
-
 pub plain_text : (name text : List ℕ) → IsAscii text → bytes_eq (text_of name) text ≡ bytes_eq name text
 plain_text name text h =
     let own : text_of text ≡ text = encodes-IsAscii text h in
     same_test (bytes_eq (text_of name) text) (bytes_eq name text)
     (λ e. (bytes_eq-Decides name text).1 (same_octets name text ((bytes_eq-Decides (text_of name) text).0 e ∙ sym own)))
     (λ e. (bytes_eq-Decides (text_of name) text).1 (ap text_of ((bytes_eq-Decides name text).0 e) ∙ own))
-
-pub too_long : (name text : List ℕ) → length text < length name → bytes_eq (text_of name) text ≡ false
-too_long name text h =
-    false_from_ne_true (bytes_eq (text_of name) text) (λ e.
-    let same : text_of name ≡ text = (bytes_eq-Decides (text_of name) text).0 e in
-    omega (arith, h, length-le-encodes name, ap (λ (t : List ℕ). length t) same))
 
 -- ---- after a name and a dot
 

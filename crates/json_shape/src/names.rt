@@ -4,21 +4,7 @@ ghost use Rattle.std.specs.Prelude.{◌≡◌, ◌≢◌, ◌<◌, ◌==◌, ◌
 ghost use Rattle.std.specs.Str.{IsAscii, bytes_eq};
 ghost use Rattle.json_shape.specs.Texts.{text_of};
 
-use crate::texts::{after, is_text_of};
-
-/// Whether a string is a name's, where its octets may be more than ASCII.
-#[inline(never)]
-fn is_wide_name(name: &[u8], text: &str) -> bool
-    ensures { result ≡ bytes_eq (text_of name.now) text.now }
-{
-    if name.len() > text.len() {
-        return false;
-    }
-    if name.is_ascii() {
-        return name == text.as_bytes();
-    }
-    is_text_of(name, text)
-}
+use pres::{is_text_of, text_after};
 
 /// Whether a string is a name's. If the string is known to be ASCII, octets are compared.
 #[inline(always)]
@@ -29,7 +15,7 @@ pub(crate) fn is_name(name: &[u8], text: &str, plain: bool) -> bool
     if plain {
         name == text.as_bytes()
     } else {
-        is_wide_name(name, text)
+        is_text_of(name, text)
     }
 }
 
@@ -69,10 +55,10 @@ fn after_wide_name<'a>(name: &[u8], text: &'a str) -> Option<&'a str>
     ensures none { IfNone result
         ((o : List ℕ) → bytes_eq (text_of (name.now ++ (codes "." ++ o))) text.now ≡ false) }
 {
-    let Some(rest) = after(name, text.chars()) else {
+    let Some(rest) = text_after(name, text.chars()) else {
         return None;
     };
-    match after(b".", rest) {
+    match text_after(b".", rest) {
         Some(rest) => Some(rest.as_str()),
         None => None,
     }

@@ -1,8 +1,6 @@
 //! Strings that stand for octets.
 
-ghost use Rattle.std.specs.Prelude.{IfNone, IfOk, IfSome, IsUtf8, string_bytes, ◌≡◌, ◌≢◌, ◌++◌, ℕ, List};
-ghost use Rattle.std.specs.Str.{bytes_eq};
-ghost use Rattle.std.specs.Str.Iter.{chars_rest};
+ghost use Rattle.std.specs.Prelude.{IfOk, IfSome, string_bytes, ◌≡◌};
 ghost use Rattle.serde_json.specs.View.{view};
 ghost use Rattle.json_shape.specs.Gives.{Gives};
 ghost use Rattle.json_shape.specs.Texts.{octets_of, octets_in, hex_in, text_of};
@@ -12,7 +10,6 @@ use hex::FromHexError;
 use kit_base::{NoMemory, Octets};
 use serde_json::Value as Json;
 use std::alloc::Global;
-use std::str::Chars;
 
 /// The octets that are a string's characters. Those of an ASCII string are its own octets.
 pub(crate) fn octets_of(alloc: Global, text: &str) -> Result<Octets, ShapeErr>
@@ -84,44 +81,4 @@ pub(crate) fn text_of(alloc: Global, octets: &[u8]) -> Result<String, NoMemory>
         Some(text) => Ok(String::from_str(alloc, text)?),
         None => pres::text_of(alloc, octets),
     }
-}
-
-/// What stands after the string of the octets.
-pub(crate) fn after<'a>(octets: &[u8], chars: Chars<'a>) -> Option<Chars<'a>>
-    requires { IsUtf8 (chars_rest chars) }
-    ensures some { IfSome result (λ r. IsUtf8 (chars_rest r)
-        × (chars_rest chars.entry ≡ text_of octets.now ++ chars_rest r)) }
-    ensures none { IfNone result ((more : List ℕ) → chars_rest chars.entry ≢ text_of octets.now ++ more) }
-{
-    let mut rest = chars;
-    for octet in octets {
-        let Some(c) = rest.next() else {
-            return None;
-        };
-        if u32::from(c) != u32::from(*octet) {
-            return None;
-        }
-    }
-    Some(rest)
-}
-
-/// Whether what is left of a string is that of the octets.
-pub(crate) fn is_rest_of(octets: &[u8], chars: Chars<'_>) -> bool
-    requires { IsUtf8 (chars_rest chars) }
-    ensures { result ≡ bytes_eq (text_of octets.now) (chars_rest chars.entry) }
-{
-    match after(octets, chars) {
-        Some(mut rest) => match rest.next() {
-            None => true,
-            Some(_) => false,
-        },
-        None => false,
-    }
-}
-
-/// Whether a string is that of the octets.
-pub(crate) fn is_text_of(octets: &[u8], text: &str) -> bool
-    ensures { result ≡ bytes_eq (text_of octets.now) text.now }
-{
-    is_rest_of(octets, text.chars())
 }

@@ -1,5 +1,5 @@
 -- Arrays of arrays that are drawn, the innermost first, by induction on the counts.
-use Rattle.std.proofs.Common.{◌≡◌, IsTrue, ℕ, zero, suc, ◌+◌, ◌-◌, ◌<◌, ◌≤◌, List, [], ◌∷◌, ◌++◌, length, get_or, drop, Option, None, Some, refl, sym, ap, ◌∙◌, subst, length-append, append-nil, arith}
+use Rattle.std.proofs.Common.{◌≡◌, IsTrue, ℕ, zero, suc, ◌+◌, ◌-◌, ◌<◌, ◌≤◌, List, [], ◌∷◌, ◌++◌, length, get_or, drop, Option, None, Some, refl, sym, ap, ◌∙◌, length-append, arith}
 use Rattle.std.proofs.Math.Seq.{drop-cons}
 use Rattle.std.proofs.Math.ListN.{drop_of_length-le}
 use Rattle.mint.specs.declared.kind.Kind.{Kind}
@@ -7,12 +7,11 @@ use Rattle.mint.specs.declared.kind.Count.{Count}
 use Rattle.aoi.specs.Shapes as aoi
 use Rattle.pres.specs.declared.elements.Element.{Element}
 use Rattle.pres.specs.declared.elements.Element.TheVariants.{Packed, Drawn}
-use Rattle.pres.specs.declared.errors.BindErr.{BindErr}
 use Rattle.pres.specs.Faces.{Face, list}
 use Rattle.pres.specs.Made.{made}
 use Rattle.pres.specs.Offers.{face_of, packed, elements_by, elements}
-use Rattle.pres.specs.Drafts.{Sketch, drawn, Grows, IsDrawn, IsElement, IsPlaced, Overflows, elements_at, made_within, is_drawable}
-use Rattle.pres.proofs.Drawn.{overflows_more, node_after, drawn_as}
+use Rattle.pres.specs.Drafts.{Sketch, drawn, Grows, IsDrawn, IsElement, IsPlaced, elements_at, made_within, is_drawable}
+use Rattle.pres.proofs.Drawn.{node_after, drawn_as}
 
 pub arrayed_drawable : (n : ℕ) (s : aoi.Shape) (cs : List Count) → IsTrue (is_drawable n (aoi.arrayed s cs)) → IsTrue (is_drawable n s)
 arrayed_drawable n s [] h = h

@@ -1,10 +1,8 @@
 -- Exceptions that are found by their names, by induction on the exceptions and on the operations.
-use Rattle.std.proofs.Common.{◌≡◌, Bool, cond, true, ℕ, zero, suc, ◌+◌, ◌<◌, ◌≤◌, List, [], ◌∷◌, ◌++◌, length, map, drop, take, get_or, Option, None, Some, String, refl, ap, sym, ◌∙◌, subst, append_assoc, append-nil, arith}
+use Rattle.std.proofs.Common.{◌≡◌, true, ℕ, zero, suc, ◌+◌, ◌<◌, ◌≤◌, List, [], ◌∷◌, ◌++◌, length, map, drop, take, get_or, Option, None, Some, String, refl, ap, sym, ◌∙◌, subst, append_assoc, append-nil, arith}
 use Rattle.std.specs.Prelude.{if◌then◌else◌, slice_index_or}
 use Rattle.std.specs.BTreeMap.{BTreeMap, get_by_text}
-use Rattle.std.specs.List.{position_from}
-use Rattle.std.specs.Str.{IsAscii, bytes_eq}
-use Rattle.std.proofs.lemmas.Str.{encodes-IsAscii}
+use Rattle.std.specs.Str.{bytes_eq}
 use Rattle.std.proofs.lemmas.List.{map-append, take_more}
 use Rattle.wire_def.specs.declared.encoding.Back.{Back}
 use Rattle.aoi.specs.declared.interfaces.Interface.{Interface}
@@ -13,7 +11,7 @@ use Rattle.aoi.specs.declared.interfaces.Raise.{Raise}
 use Rattle.aoi.specs.Plain.{PlainRaise, PlainOperation, PlainInterface, plain_raise, plain_operation, plain_interface}
 use Rattle.pres.specs.Offers.{gets_null}
 use Rattle.pres.specs.Raises.{FindEach, FindMore, FindsRaises, names_in, number_from, raise_from, raises_of, sources, sources_of}
-use Rattle.pres.specs.Tables.{AreAscii, text_of}
+use Rattle.pres.specs.Tables.{text_of}
 
 -- ---- the exceptions of an operation
 
@@ -30,20 +28,6 @@ named (r ∷ rs) k s = ap (λ (z : Option ℕ). if bytes_eq (text_of r.name) s t
 -- a table of the names of exceptions finds them
 pub table_named : (rs : List PlainRaise) (names table : List (List ℕ)) → table ≡ names → names ≡ names_in rs → FindsRaises rs table
 table_named rs names table e f = λ s. ap (λ (ns : List (List ℕ)). number_from s 1 ns) (e ∙ f) ∙ named rs 1 s
-
--- a name of ASCII is the string of its octets
-ascii_name : (name s : List ℕ) → IsAscii name → bytes_eq name s ≡ bytes_eq (text_of name) s
-ascii_name name s h = ap (λ (t : List ℕ). bytes_eq t s) (sym (encodes-IsAscii name h))
-
--- among names of ASCII octets are found as the string that they are
-pub ascii_found : (names : List (List ℕ)) (k : ℕ) (s : List ℕ) → AreAscii names
-    → position_from (λ (n : List ℕ). bytes_eq n s) k names ≡ number_from s k names
-ascii_found [] k s h = refl
-ascii_found (n ∷ ns) k s h =
-    let next : k + 1 ≡ suc k = omega arith in
-    ap (λ (b : Bool). cond b (Some k) (position_from (λ (m : List ℕ). bytes_eq m s) (k + 1) ns)) (ascii_name n s h.0)
-    ∙ ap (λ (j : ℕ). cond (bytes_eq (text_of n) s) (Some k) (position_from (λ (m : List ℕ). bytes_eq m s) j ns)) next
-    ∙ ap (λ (o : Option ℕ). cond (bytes_eq (text_of n) s) (Some k) o) (ascii_found ns (suc k) s h.1)
 
 -- ---- the operations, one after another
 

@@ -36,5 +36,7 @@ pub mod Existing
 pub mod Tabled
 -- * The names of fields, by induction on the fields
 pub mod Fielded
+-- * Strings that begin with the string of octets, or are it
+pub mod Passing
 -- * Exceptions that are found by their names, by induction on the exceptions and on the operations
 pub mod Found

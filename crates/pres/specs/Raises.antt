@@ -8,7 +8,7 @@ use Rattle.wire_def.specs.declared.encoding.Back.{Back}
 use Rattle.aoi.specs.Plain.{PlainRaise, PlainOperation, PlainInterface}
 use Rattle.pres.specs.Bindings.{Binding, IsBinding}
 use Rattle.pres.specs.Offers.{gets_null}
-use Rattle.pres.specs.Tables.{AreAscii, text_of}
+use Rattle.pres.specs.Tables.{text_of}
 
 -- the operations of an interface as its file has them, and none for a procedure that it gets
 abbrev pub sources_of : Back → PlainInterface → List (Option PlainOperation)
@@ -46,9 +46,9 @@ abbrev pub names_in : List PlainRaise → List (List ℕ)
 names_in rs = map (λ (r : PlainRaise). r.name) rs
 
 module _ {Y : Type 0} where
-  -- what finds names: a map of the strings that they are, or none where all are of ASCII
+  -- what finds names: a map of the strings that they are, or none where one is long
   abbrev pub IsTable : List (List ℕ) → Option (BTreeMap (String Y) ℕ) → Type 0
-  IsTable names None = (length names + 1 < 2 ^ 32) × AreAscii names
+  IsTable names None = length names + 1 < 2 ^ 32
   IsTable names (Some m) = (s : List ℕ) → get_by_text m s ≡ number_from s 1 names
 
 -- names among which the number of each exception is found

@@ -33,4 +33,4 @@ pub use laws::units_are_bound;
 pub use messages::gets_null;
 pub use ops::{Op, Ops};
 pub use shape::{Pres, Shape};
-pub use texts::text_of;
+pub use texts::{is_text_of, text_after, text_of};

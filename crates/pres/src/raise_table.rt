@@ -1,13 +1,12 @@
 //! The names of an operation's exceptions, found by the strings that they are.
 
-ghost use Rattle.std.specs.Prelude.{◌≡◌, ◌+◌, ◌<◌, ◌^◌, ℕ, List, Some, true, length, IfOk, OnOk, if◌then◌else◌};
+ghost use Rattle.std.specs.Prelude.{◌≡◌, ◌+◌, ◌<◌, ◌^◌, ℕ, List, Some, length, IfOk, OnOk, if◌then◌else◌};
 ghost use Rattle.std.specs.BTreeMap.{IsEmpty, get_by_text};
-ghost use Rattle.std.specs.List.{position_from};
 ghost use Rattle.std.specs.Str.{bytes_eq};
 ghost use Rattle.pres.specs.Raises.{IsTable, number_from};
-ghost use Rattle.pres.specs.Tables.{AreAscii, text_of};
+ghost use Rattle.pres.specs.Tables.{text_of};
 
-use crate::texts::text_of;
+use crate::texts::{is_text_of, text_of};
 use kit_base::{Name, NoMemory};
 use kit_shared::{Shared, SharedNames};
 use std::alloc::Global;
@@ -45,18 +44,6 @@ fn has_long(names: &[Shared<Name>]) -> bool {
     false
 }
 
-/// Whether all names are of ASCII.
-fn are_ascii(names: &[Shared<Name>]) -> bool
-    ensures { result ≡ true → AreAscii names.now }
-{
-    for name in names {
-        if !name.as_slice().is_ascii() {
-            return false;
-        }
-    }
-    true
-}
-
 /// Gives a name its number.
 fn put_name(
     alloc: Global,
@@ -90,7 +77,7 @@ fn put_names(
     Ok(())
 }
 
-/// The numbers of names by the strings that they are, unless a name is long and all are of ASCII.
+/// The numbers of names by the strings that they are, unless a name is long.
 fn numbers_of(
     alloc: Global,
     names: &[Shared<Name>],
@@ -101,7 +88,7 @@ fn numbers_of(
     if names.len() > 4_294_967_290 {
         return Err(NoMemory);
     }
-    if has_long(names) && are_ascii(names) {
+    if has_long(names) {
         return Ok(None);
     }
     let mut table = BTreeMap::new(alloc);
@@ -109,28 +96,19 @@ fn numbers_of(
     Ok(Some(table))
 }
 
-/// The number of the first of these names that octets are, from 1.
-fn number_of(names: &[Shared<Name>], text: &[u8]) -> Option<u32>
+/// The number of the first of these names that a string is, from 1.
+fn number_among(names: &[Shared<Name>], text: &str) -> Option<u32>
     requires { length names.now + 1 < 2 ^ 32 }
-    ensures { result ≡ position_from (λ n. bytes_eq n text.now) 1 names.now }
+    ensures { result ≡ number_from text.now 1 names.now }
 {
     let mut number = 1;
     for name in names {
-        if name.as_slice() == text {
+        if is_text_of(name.as_slice(), text) {
             return Some(number);
         }
         number += 1;
     }
     None
-}
-
-/// The number of the first of these names that a string is, from 1.
-fn number_among(names: &[Shared<Name>], text: &str) -> Option<u32>
-    requires few { length names.now + 1 < 2 ^ 32 }
-    requires ascii { AreAscii names.now }
-    ensures { result ≡ number_from text.now 1 names.now }
-{
-    number_of(names, text.as_bytes())
 }
 
 impl RaiseTable {

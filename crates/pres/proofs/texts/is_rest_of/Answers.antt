@@ -1,6 +1,6 @@
 use Rattle.std.proofs.Common.{sym}
-use Rattle.json_shape.proofs.Passing.{whole_text, other_text}
-use Rattle.json_shape.proofs.texts.is_rest_of.Goals as goal
+use Rattle.pres.proofs.Passing.{whole_text, other_text}
+use Rattle.pres.proofs.texts.is_rest_of.Goals as goal
 
 pub returns-in-None-next : goal.returns-in-None-next
 returns-in-None-next c = sym (whole_text c.args.octets.now _ _ c.in-Some.ensures.some.1 c.in-None-next.ensures.steps.0.0)

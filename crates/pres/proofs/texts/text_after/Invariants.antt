@@ -1,6 +1,6 @@
 use Rattle.std.specs.Str.Iter.{chars_rest}
-use Rattle.json_shape.proofs.Passing.{Passing}
-use Rattle.json_shape.proofs.texts.after.Given as goal
+use Rattle.pres.proofs.Passing.{Passing}
+use Rattle.pres.proofs.texts.text_after.Given as goal
 
 -- The string of the octets before the index is passed.
 abbrev pub invariant-loop-octet : goal.invariant-loop-octet

@@ -1,7 +1,7 @@
 use Rattle.std.proofs.Common.{sym, ◌∙◌, arith}
 use Rattle.std.specs.Str.Iter.{chars_rest}
-use Rattle.json_shape.proofs.Passing.{starts, goes_on, differs, falls_short, ends}
-use Rattle.json_shape.proofs.texts.after.Goals as goal
+use Rattle.pres.proofs.Passing.{starts, goes_on, differs, falls_short, ends}
+use Rattle.pres.proofs.texts.text_after.Goals as goal
 
 pub loop-octet-init : goal.loop-octet-init
 loop-octet-init c = starts c.args.octets.now (chars_rest c.args.chars) c.requires
