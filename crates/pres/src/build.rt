@@ -1,6 +1,6 @@
 //! The table of a unit.
 
-ghost use Rattle.std.specs.Prelude.{◌≡◌, ◌≢◌, ◌∷◌, [], ◌++◌, List, IfOk, IfErr, OnOk, Some, None, true, false};
+ghost use Rattle.std.specs.Prelude.{◌≡◌, ◌≢◌, ◌∷◌, [], ◌++◌, List, IfOk, IfErr, OnOk, Some, None, Err, true, false};
 ghost use Rattle.std.specs.List.{list_any, list_all};
 ghost use Rattle.mint.specs.declared.kind.Kind.TheVariants.{I32};
 ghost use Rattle.mint.specs.Kinds.{in_range};
@@ -62,6 +62,7 @@ fn add(mint: &mut Mint, node: Node) -> Result<(), BindErr>
     ensures taken { OnOk result (refusal mint.old node ≡ None) }
     ensures cause { IfErr result
         (λ e. e ≢ BindErr.NoMemory → (e ≡ BindErr.Heavy) × (refusal mint.old node ≡ Some MintHeavy)) }
+    ensures heavy { refusal mint.old node ≡ Some MintHeavy → result ≡ Err BindErr.Heavy }
 {
     match mint.add(node) {
         Ok(_) => Ok(()),
