@@ -2,7 +2,7 @@
 use Rattle.std.proofs.Common.{◌≡◌, ◌<◌, ◌+◌, ◌==◌, IsUtf8, IfSome, IfNone, Option, Some, None, Bor, subst, ℕ, suc, List, [], ◌∷◌, ◌++◌, length, take, drop, get_or, Bool, true, false, bytes_eq, codes, refl, sym, ap, ◌∙◌, arith, length-append}
 use Rattle.std.specs.Str.{IsAscii, IsCharBoundary}
 use Rattle.std.proofs.lemmas.Bool.Decides.{Decides-eqb}
-use Rattle.std.proofs.lemmas.Str.{encode_same, encodes-append, encodes-IsAscii, length-le-encodes, IsAscii-take, IsCharBoundary-after_ascii}
+use Rattle.std.proofs.lemmas.Str.{encode_same, encodes-append, encodes-IsAscii, IsAscii-take, IsCharBoundary-after_ascii}
 use Rattle.std.proofs.lemmas.Slice.Eq.{bytes_eq-Decides}
 use Rattle.json_shape.specs.Texts.{text_of}
 use Rattle.pres.proofs.Passing.{never_empty, too_long}

@@ -9,11 +9,11 @@ returns-in_default-clause-none c =
     let named = rw c.chars.ensures.rest at c.in_default.ensures.none in
     λ o. unpeeled c.args.name.now (codes "." ++ o) c.args.text.now named
 
-pub returns-in-Some-after-clause-some : goal.returns-in-Some-after-clause-some
-returns-in-Some-after-clause-some c =
+pub returns-in-Some-text_after-clause-some : goal.returns-in-Some-text_after-clause-some
+returns-in-Some-text_after-clause-some c =
     let first = rw c.chars.ensures.rest at c.in-Some.ensures.some.1 in
     λ o. peeled c.args.name.now (codes "." ++ o) c.args.text.now (chars_rest c.in-Some.rest) first
-    ∙ peeled (codes ".") o (chars_rest c.in-Some.rest) (chars_rest c.in-Some-after.rest) c.in-Some-after.ensures.some.1
+    ∙ peeled (codes ".") o (chars_rest c.in-Some.rest) (chars_rest c.in-Some-text_after.rest) c.in-Some-text_after.ensures.some.1
     ∙ ap (λ (t : List ℕ). bytes_eq (text_of o) t) (sym c.as_str.ensures)
 
 pub returns-in-None-clause-none : goal.returns-in-None-clause-none
