@@ -18,7 +18,8 @@ use Rattle.stub_flat.specs.Residues.{Residues, none, sum, moved, closed, single_
 use Rattle.stub_flat.specs.Leaves.{leaves, ways_leave, width_of}
 use Rattle.cast_stub.specs.declared.put.Put.{Put}
 use Rattle.stub_flat.specs.Items.{Items, align_items, cells, done, fixed, octets, zeros, no_way, other, way, items, row_items, way_items, provided}
-use Rattle.stub_compare.specs.CompareSets.{Agree, IsTableOf, applied, each_of, set_of}
+use Rattle.stub_compare.specs.CompareSets.{Agree, IsTableOf, applied}
+use Rattle.stub_places.specs.Sets.{each_of, set_of}
 use Rattle.stub_compare.specs.CompareText.{cells_text, integer_text, items_text, path_text, ways_text}
 use Rattle.stub_compare.specs.CompareTold.{AreWaysPut, IsBlockPut, IsLed, IsOpPut, IsOpTold, IsPut, IsTold, row_piece}
 use Rattle.stub_compare.proofs.CompareLists.{first_of}

@@ -11,7 +11,7 @@ use Rattle.stub_flat.specs.Places.{Spot}
 use Rattle.stub_flat.specs.Residues.{every, only}
 use Rattle.stub_flat.specs.Items.{Items, items}
 use Rattle.stub_flat.specs.Flat.{Flats, Spots, flat, list_items, spots}
-use Rattle.stub_compare.specs.CompareSets.{each_of, set_of}
+use Rattle.stub_places.specs.Sets.{each_of, set_of}
 use Rattle.stub_compare.specs.CompareText.{flats_text, items_text, list_text}
 use Rattle.stub_compare.specs.CompareTold.{IsBlockPut, IsLed, IsLedWhere, IsPut, IsTold, body_items}
 use Rattle.stub_compare.specs.CompareFlats.{HaveOneFlat}

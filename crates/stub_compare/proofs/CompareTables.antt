@@ -2,31 +2,17 @@
 use Rattle.std.proofs.Common.{◌≡◌, ℕ, zero, suc, ◌+◌, ◌-◌, ◌<◌, ◌≤◌, Bool, true, false, ◌&&◌, ◌||◌, not, inl, inr, refl, sym, ap, ◌∙◌, subst, arith, lit≤, lit<, List, [], get_or, if◌then◌else◌}
 use Rattle.std.proofs.lemmas.Bool.{eqb-true}
 use Rattle.stub_flat.specs.Residues.{Residues, only, none, sum, moved, aligned, within_first, is_within, size_first, closing, closed}
-use Rattle.stub_compare.specs.CompareSets.{Agree, IsTableOf, LedBy, applied, each_of, row, rows_of, set_of}
+use Rattle.stub_compare.specs.CompareSets.{Agree, IsTableOf, LedBy, applied, row, rows_of}
+use Rattle.stub_places.specs.Sets.{each_of, set_of}
+use Rattle.stub_places.proofs.Eights.{eighth, eight_same}
 use Rattle.stub_compare.proofs.CompareBools.{one_is, left_is, right_is, same_truth, chosen, at_or_below}
 use Rattle.stub_compare.proofs.CompareLinear.{Within, IsLinear, only_within, none_within, linear_agree, linear_moved, agree_then}
 
 -- ---- sets and tables as lists
 
--- the value at a residue
-pub eighth : {A : Type 0} (f : ℕ → A) (d : A) (r : ℕ) → r < 8 → get_or (each_of f) r d ≡ f r
-eighth f d zero h = refl
-eighth f d (suc zero) h = refl
-eighth f d (suc (suc zero)) h = refl
-eighth f d (suc (suc (suc zero))) h = refl
-eighth f d (suc (suc (suc (suc zero)))) h = refl
-eighth f d (suc (suc (suc (suc (suc zero))))) h = refl
-eighth f d (suc (suc (suc (suc (suc (suc zero)))))) h = refl
-eighth f d (suc (suc (suc (suc (suc (suc (suc zero))))))) h = refl
-eighth f d (suc (suc (suc (suc (suc (suc (suc (suc r)))))))) h = absurd (omega arith)
-
 -- a set that is listed
 pub agree_each : (S : Residues) (a : List Bool) → a ≡ each_of S → Agree (set_of a) S
 agree_each S a is r lt = ap (λ (l : List Bool). get_or l r false) is ∙ eighth S false r lt
-
-eight_same : {A : Type 0} (f g : ℕ → A) → f 0 ≡ g 0 → f 1 ≡ g 1 → f 2 ≡ g 2 → f 3 ≡ g 3 → f 4 ≡ g 4 → f 5 ≡ g 5 → f 6 ≡ g 6
-    → f 7 ≡ g 7 → each_of f ≡ each_of g
-eight_same f g h0 h1 h2 h3 h4 h5 h6 h7 = cc
 
 -- the same residues are listed as the same values
 pub each_agree : (S T : Residues) → Agree S T → each_of S ≡ each_of T

@@ -1,14 +1,7 @@
--- Sets of residues as eight values, and nine of them side by side.
-use Rattle.std.specs.Prelude.{◌≡◌, ℕ, zero, suc, ◌<◌, Bool, false, List, [], ◌∷◌, slice_index_or, if◌then◌else◌}
+-- Sets of residues side by side, nine in a table.
+use Rattle.std.specs.Prelude.{◌≡◌, ℕ, zero, suc, ◌<◌, Bool, List, [], ◌∷◌, slice_index_or, if◌then◌else◌}
 use Rattle.stub_flat.specs.Residues.{Residues, only, sum}
-
--- the values at the residues 0 to 7
-abbrev pub each_of : {A : Type 0} → (ℕ → A) → List A
-each_of f = f 0 ∷ f 1 ∷ f 2 ∷ f 3 ∷ f 4 ∷ f 5 ∷ f 6 ∷ f 7 ∷ []
-
--- the set whose values are listed from residue 0 on
-abbrev pub set_of : List Bool → Residues
-set_of bs r = slice_index_or bs r false
+use Rattle.stub_places.specs.Sets.{each_of, set_of}
 
 -- the same residues below 8
 abbrev pub Agree : Residues → Residues → Type 0

@@ -9,7 +9,8 @@ use Rattle.stub_flat.specs.Residues.{Residues, every}
 use Rattle.stub_flat.specs.Leaves.{leaves, ways_leave}
 use Rattle.stub_flat.specs.Items.{Items, items, way_items}
 use Rattle.stub_flat.specs.Flat.{Called, Spots, calls, all_noted}
-use Rattle.stub_compare.specs.CompareSets.{Agree, row, set_of}
+use Rattle.stub_compare.specs.CompareSets.{Agree, row}
+use Rattle.stub_places.specs.Sets.{set_of}
 use Rattle.stub_compare.specs.CompareText.{items_text, ways_text}
 
 -- the new numbers are the old ones and then a text, whatever follows it

@@ -9,13 +9,13 @@ ghost use Rattle.stub_compare.specs.CompareFlats.{HaveOneFlat};
 
 use crate::compare_calls::find_spots;
 use crate::compare_items::put_ops;
-use crate::compare_sets::{every, only};
 use crate::compare_steps::steps_in;
 use crate::compare_text::{Numbers, put_number};
 use cast_stub::{SendCode, SendOps, SendSubs};
 use kit_base::NoMemory;
 use mint::table::{Mint, NodeId};
 use std::alloc::Global;
+use stub_places::sets::{every, only};
 use stub_places::{Spot, spend};
 
 /// Puts what is left of a code of a list, from all residues, where its node is known.

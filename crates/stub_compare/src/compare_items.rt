@@ -6,20 +6,20 @@ ghost use Rattle.cast_stub.specs.Block.{cases_seen, code_seen, op_seen, align, c
 ghost use Rattle.cast_stub.specs.Steps.{is_width};
 ghost use Rattle.stub_flat.specs.Items.{Items, align_items, row_items};
 ghost use Rattle.stub_flat.specs.Residues.{Residues};
-ghost use Rattle.stub_compare.specs.CompareSets.{set_of};
+ghost use Rattle.stub_places.specs.Sets.{set_of};
 ghost use Rattle.stub_compare.specs.CompareText.{items_text, integer_text, order_text, path_text};
 ghost use Rattle.stub_compare.specs.CompareTold.{AreWaysPut, IsBlockPut, IsOpPut, IsPut, row_piece};
 
 use crate::compare_cells::put_cells;
 use crate::compare_leaves::turn_of;
 use crate::compare_octets::{put_itself, put_zeros};
-use crate::compare_sets::{Set, aligned, every, gap, moved, none, single, size, sum};
 use crate::compare_tables::{closed, closed_by};
 use crate::compare_text::{Numbers, order_number, put_integer, put_number, put_over};
 use cast_stub::{Path, Puts, SendCases, SendOp, SendOps};
 use kit_base::NoMemory;
 use mint::table::Mint;
 use std::alloc::Global;
+use stub_places::sets::{Set, aligned, every, gap, moved, none, single, size, sum};
 use stub_places::{
     Spot, arm_spot_at, element_at, has_length_at, is_width, present_at, rest_spot_at, row_kind_at,
     spot_at, width,

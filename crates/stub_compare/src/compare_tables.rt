@@ -3,12 +3,13 @@
 ghost use Rattle.std.specs.Prelude.{◌≡◌, true, ◌<◌, [], slice_index_or, if◌then◌else◌};
 ghost use Rattle.cast_stub.specs.Steps.{is_width};
 ghost use Rattle.stub_flat.specs.Residues.{aligned, closed, every, moved, none, only, sum};
-ghost use Rattle.stub_compare.specs.CompareSets.{Agree, IsTableOf, LedBy, applied, each_of, row, rows_of, set_of};
+ghost use Rattle.stub_compare.specs.CompareSets.{Agree, IsTableOf, LedBy, applied, row, rows_of};
+ghost use Rattle.stub_places.specs.Sets.{each_of, set_of};
 
-use crate::compare_sets::{
-    Set, aligned, copied, every, has, is_within, moved, none, only, size, sum,
-};
 use stub_places::is_width;
+use stub_places::sets::{
+    Set, aligned, contains, copied, every, is_within, moved, none, only, size, sum,
+};
 
 /// What code makes of each residue by itself, and last of none.
 pub(crate) type Table = [Set; 9];
@@ -78,7 +79,7 @@ fn with_row(made: &Set, table: &Table, set: &Set, k: usize) -> Set
     ensures { Agree (set_of result)
         (if set_of set.now k then sum (set_of made.now) (row table.now k) else set_of made.now) }
 {
-    if has(set, k) {
+    if contains(set, k) {
         sum(made, &row(table, k))
     } else {
         *made

@@ -7,7 +7,6 @@ mod compare_cells;
 mod compare_items;
 mod compare_leaves;
 mod compare_octets;
-mod compare_sets;
 mod compare_steps;
 mod compare_tables;
 mod compare_text;

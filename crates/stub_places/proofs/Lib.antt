@@ -2,3 +2,5 @@
 
 -- * A number that is found among cases has a case
 pub mod CasesFound
+-- Lists of eight: what is at the residues 0 to 7
+pub mod Eights

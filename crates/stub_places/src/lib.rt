@@ -1,7 +1,9 @@
-//! The types of places in stub code: the number of a node, or none where nothing is known; the steps of looks at code.
+//! The types of places in stub code: the number of a node, or none where nothing is known; the steps of looks at code;
+//! sets of residues of a position by 8.
 #![tactic(auto)]
 
 mod places;
+pub mod sets;
 mod steps;
 
 pub use places::{

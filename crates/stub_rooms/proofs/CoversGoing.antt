@@ -9,7 +9,8 @@ use Rattle.stub_flat.specs.Places.{Spot, arm_spot, rest_spot}
 use Rattle.stub_flat.specs.Residues.{Residues, every, closed}
 use Rattle.stub_cover.specs.Rooms.{Rooms, reached, least, no_rooms, only_room, on, raised, set, least_first}
 use Rattle.stub_cover.specs.Covers.{Turn, Credit, run, run_ways, suffices, free_loop, bounded_loop, bare_loop, or_else, most_turns, turns}
-use Rattle.stub_rooms.specs.RoomsShown.{each_of, mark_at, room_at, spread, least_of, Shown, Follows}
+use Rattle.stub_rooms.specs.RoomsShown.{room_at, spread, least_of, Shown, Follows}
+use Rattle.stub_places.specs.Sets.{each_of, set_of}
 use Rattle.stub_rooms.specs.CoversLap.{turn_of}
 use Rattle.stub_rooms.specs.declared.covers_lap.Lap.{Lap}
 use Rattle.stub_rooms.specs.CoversStanding.{credit, credit_of, few, loop_of, maybe_loop, GoesOn, Goes, Refuses, Steps}
@@ -308,8 +309,8 @@ pub follows_else : (F G : Turn) (a : List (Option ℕ)) (x : Option (List (Optio
 follows_else F G a x p q = record { told = λ R e. else_made x (F R) (G R) (p.told R e) (q.told R e) }
 
 -- a loop, of which elements may have their own octets
-suffices_shown : (f : Turn) (u : ℕ) (S : Residues) (m : List Bool) → m ≡ each_of S → suffices 8 f u S ≡ suffices 8 f u (mark_at m)
-suffices_shown f u S m e = ap (λ (l : List Bool). suffices 8 f u (mark_at l)) (sym e)
+suffices_shown : (f : Turn) (u : ℕ) (S : Residues) (m : List Bool) → m ≡ each_of S → suffices 8 f u S ≡ suffices 8 f u (set_of m)
+suffices_shown f u S m e = ap (λ (l : List Bool). suffices 8 f u (set_of l)) (sym e)
 
 bare_joined : (S : Residues) (b x : List (Option ℕ)) (o : Option Rooms) → b ≡ each_of (on S 0) → Some x ≡ option_map each_of o
     → Some b ≡ option_map each_of (option_map (λ T. on S 0) o)
@@ -320,8 +321,8 @@ bare_none : (S : Residues) (o : Option Rooms) → None ≡ option_map each_of o 
 bare_none S None q = refl
 bare_none S (Some T) q = absurd cc
 
-bare_shown : (S : Residues) (m : List Bool) (b : List (Option ℕ)) → b ≡ each_of (on (mark_at m) 0) → m ≡ each_of S → b ≡ each_of (on S 0)
-bare_shown S m b is e = is ∙ ap (λ (l : List Bool). each_of (on (mark_at l) 0)) e
+bare_shown : (S : Residues) (m : List Bool) (b : List (Option ℕ)) → b ≡ each_of (on (set_of m) 0) → m ≡ each_of S → b ≡ each_of (on S 0)
+bare_shown S m b is e = is ∙ ap (λ (l : List Bool). each_of (on (set_of l) 0)) e
 
 module _ (f : Turn) (reach : Rooms → Residues) (plain : Bool) (a : List (Option ℕ)) where
   pub free_no_unit : Follows (λ R. free_loop f (reach R) plain None R) a None
@@ -333,7 +334,7 @@ module _ (f : Turn) (reach : Rooms → Residues) (plain : Bool) (a : List (Optio
   }
 
   pub free_short : (u : ℕ) (m : List Bool) → plain ≡ true → ((R : Rooms) → a ≡ each_of R → m ≡ each_of (reach R))
-      → suffices 8 f u (mark_at m) ≡ false → Follows (λ R. free_loop f (reach R) plain (Some u) R) a None
+      → suffices 8 f u (set_of m) ≡ false → Follows (λ R. free_loop f (reach R) plain (Some u) R) a None
   free_short u m is shows short = record {
     told = λ R e.
         ap (λ (b : Bool). option_map each_of (if b then Some (spread (reach R) (least_first 8 R)) else None))
@@ -342,10 +343,10 @@ module _ (f : Turn) (reach : Rooms → Residues) (plain : Bool) (a : List (Optio
   }
 
   pub free_given : (u : ℕ) (m : List Bool) (x : List (Option ℕ)) → plain ≡ true → ((R : Rooms) → a ≡ each_of R → m ≡ each_of (reach R))
-      → suffices 8 f u (mark_at m) ≡ true → x ≡ each_of (spread (mark_at m) (least_first 8 (room_at a)))
+      → suffices 8 f u (set_of m) ≡ true → x ≡ each_of (spread (set_of m) (least_first 8 (room_at a)))
       → Follows (λ R. free_loop f (reach R) plain (Some u) R) a (Some x)
   free_given u m x is shows enough e = record {
-    told = λ R at. ap Some (e ∙ ap (λ (l : List Bool). each_of (spread (mark_at l) (least_first 8 (room_at a)))) (shows R at)
+    told = λ R at. ap Some (e ∙ ap (λ (l : List Bool). each_of (spread (set_of l) (least_first 8 (room_at a)))) (shows R at)
         ∙ ap (λ (l : List (Option ℕ)). each_of (spread (reach R) (least_first 8 (room_at l)))) at)
         ∙ ap (λ (b : Bool). option_map each_of (if b then Some (spread (reach R) (least_first 8 R)) else None))
         (sym (suffices_shown f u (reach R) m (shows R at) ∙ enough))
@@ -353,14 +354,14 @@ module _ (f : Turn) (reach : Rooms → Residues) (plain : Bool) (a : List (Optio
   }
 
   pub bare_given : (m : List Bool) (b x : List (Option ℕ)) → ((R : Rooms) → a ≡ each_of R → m ≡ each_of (reach R))
-      → b ≡ each_of (on (mark_at m) 0) → Follows f b (Some x) → Follows (λ R. bare_loop f (reach R) R) a (Some b)
+      → b ≡ each_of (on (set_of m) 0) → Follows f b (Some x) → Follows (λ R. bare_loop f (reach R) R) a (Some b)
   bare_given m b x shows is p = record {
     told = λ R e. bare_joined (reach R) b x (f (on (reach R) 0)) (bare_shown (reach R) m b is (shows R e))
         (p.told (on (reach R) 0) (bare_shown (reach R) m b is (shows R e)));
   }
 
   pub bare_refused : (m : List Bool) (b : List (Option ℕ)) → ((R : Rooms) → a ≡ each_of R → m ≡ each_of (reach R))
-      → b ≡ each_of (on (mark_at m) 0) → Follows f b None → Follows (λ R. bare_loop f (reach R) R) a None
+      → b ≡ each_of (on (set_of m) 0) → Follows f b None → Follows (λ R. bare_loop f (reach R) R) a None
   bare_refused m b shows is p = record {
     told = λ R e. bare_none (reach R) (f (on (reach R) 0)) (p.told (on (reach R) 0) (bare_shown (reach R) m b is (shows R e)));
   }

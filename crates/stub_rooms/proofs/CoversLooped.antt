@@ -7,7 +7,8 @@ use Rattle.stub_flat.specs.Places.{Spot, rest_spot}
 use Rattle.stub_cover.specs.Rooms.{Rooms, least, least_first}
 use Rattle.stub_flat.specs.Residues.{Residues}
 use Rattle.stub_cover.specs.Covers.{Turn, run, run_ways, suffices, free_loop, bounded_loop, bare_loop, or_else}
-use Rattle.stub_rooms.specs.RoomsShown.{each_of, mark_at, room_at, spread, least_of, Follows}
+use Rattle.stub_rooms.specs.RoomsShown.{room_at, spread, least_of, Follows}
+use Rattle.stub_places.specs.Sets.{each_of, set_of}
 use Rattle.stub_rooms.specs.CoversLap.{turn_of, reach_of, is_plain_lap}
 use Rattle.stub_rooms.specs.CoversStanding.{maybe_loop}
 use Rattle.stub_rooms.specs.declared.covers_standing.Looping.{Looping}
@@ -86,13 +87,13 @@ module _ (f : Turn) (reach : Rooms → Residues) (plain b : Bool) (unit : Option
       (free_not_plain f reach plain a u (sym same ∙ h))
 
   pub free_lacks : (u : ℕ) (m : List Bool) (y : Bool) → unit ≡ Some u → b ≡ true
-      → ((R : Rooms) → a ≡ each_of R → m ≡ each_of (reach R)) → y ≡ suffices 8 f u (mark_at m) → y ≡ false
+      → ((R : Rooms) → a ≡ each_of R → m ≡ each_of (reach R)) → y ≡ suffices 8 f u (set_of m) → y ≡ false
       → Follows (λ R. free_loop f (reach R) plain unit R) a None
   free_lacks u m y e h shows is short = subst (λ (z : Option ℕ). Follows (λ R. free_loop f (reach R) plain z R) a None) (sym e)
       (free_short f reach plain a u m (sym same ∙ h) shows (sym is ∙ short))
 
   pub free_is : (u : ℕ) (m : List Bool) (y : Bool) (x : List (Option ℕ)) → unit ≡ Some u → b ≡ true
-      → ((R : Rooms) → a ≡ each_of R → m ≡ each_of (reach R)) → y ≡ suffices 8 f u (mark_at m) → y ≡ true
-      → x ≡ each_of (spread (mark_at m) (least_first 8 (room_at a))) → Follows (λ R. free_loop f (reach R) plain unit R) a (Some x)
+      → ((R : Rooms) → a ≡ each_of R → m ≡ each_of (reach R)) → y ≡ suffices 8 f u (set_of m) → y ≡ true
+      → x ≡ each_of (spread (set_of m) (least_first 8 (room_at a))) → Follows (λ R. free_loop f (reach R) plain unit R) a (Some x)
   free_is u m y x e h shows is enough made = subst (λ (z : Option ℕ). Follows (λ R. free_loop f (reach R) plain z R) a (Some x)) (sym e)
       (free_given f reach plain a u m x (sym same ∙ h) shows (sym is ∙ enough) made)

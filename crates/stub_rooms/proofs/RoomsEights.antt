@@ -1,28 +1,13 @@
 -- Lists of eight: what they show is what is at the residues 0 to 7.
-use Rattle.std.proofs.Common.{◌≡◌, ℕ, zero, suc, ◌+◌, ◌-◌, ◌%◌, ◌<◌, ◌≤◌, Bool, true, false, List, [], ◌∷◌, get_or, length, Option, Some, None, option_map, if◌then◌else◌, refl, sym, ap, ◌∙◌, subst, ◌⊎◌, inl, inr, arith}
+use Rattle.std.proofs.Common.{◌≡◌, ℕ, suc, ◌+◌, ◌-◌, ◌%◌, ◌<◌, ◌≤◌, Bool, true, false, List, [], ◌∷◌, length, Option, Some, None, option_map, if◌then◌else◌, refl, sym, ap, ◌∙◌, subst, ◌⊎◌, inl, inr, arith}
 use Rattle.std.proofs.lemmas.Bool.{cases_lt}
 use Rattle.cast_stub.specs.Parts.{on_some}
 use Rattle.cast_stub.specs.Steps.{is_width}
 use Rattle.stub_flat.specs.Residues.{Residues, moved, aligned}
 use Rattle.stub_cover.specs.Rooms.{Rooms, least, have_first, took, padded, padded_one, padded_first}
-use Rattle.stub_rooms.specs.RoomsShown.{each_of, mark_at, room_at, joined, Shown, Follows}
-
--- the value at a residue
-pub eighth : {A : Type 0} (f : ℕ → A) (d : A) (r : ℕ) → r < 8 → get_or (each_of f) r d ≡ f r
-eighth f d zero h = refl
-eighth f d (suc zero) h = refl
-eighth f d (suc (suc zero)) h = refl
-eighth f d (suc (suc (suc zero))) h = refl
-eighth f d (suc (suc (suc (suc zero)))) h = refl
-eighth f d (suc (suc (suc (suc (suc zero))))) h = refl
-eighth f d (suc (suc (suc (suc (suc (suc zero)))))) h = refl
-eighth f d (suc (suc (suc (suc (suc (suc (suc zero))))))) h = refl
-eighth f d (suc (suc (suc (suc (suc (suc (suc (suc r)))))))) h = absurd (omega arith)
-
--- lists of eight are the same where each value is
-pub eight_same : {A : Type 0} (f g : ℕ → A) → f 0 ≡ g 0 → f 1 ≡ g 1 → f 2 ≡ g 2 → f 3 ≡ g 3 → f 4 ≡ g 4 → f 5 ≡ g 5 → f 6 ≡ g 6
-    → f 7 ≡ g 7 → each_of f ≡ each_of g
-eight_same f g h0 h1 h2 h3 h4 h5 h6 h7 = cc
+use Rattle.stub_places.proofs.Eights.{eighth, eight_same}
+use Rattle.stub_rooms.specs.RoomsShown.{room_at, joined, Shown, Follows}
+use Rattle.stub_places.specs.Sets.{each_of, set_of}
 
 pub each_same : {A : Type 0} (f g : ℕ → A) → ((r : ℕ) → f r ≡ g r) → each_of f ≡ each_of g
 each_same f g h = eight_same f g (h 0) (h 1) (h 2) (h 3) (h 4) (h 5) (h 6) (h 7)
@@ -31,19 +16,19 @@ each_same f g h = eight_same f g (h 0) (h 1) (h 2) (h 3) (h 4) (h 5) (h 6) (h 7)
 back : (n r : ℕ) → (r + 8 - n % 8) % 8 < 8
 back n r = omega arith
 
-pub marks_moved : (n : ℕ) (S : Residues) → each_of (moved n (mark_at (each_of S))) ≡ each_of (moved n S)
-marks_moved n S = each_same (moved n (mark_at (each_of S))) (moved n S) (λ r. eighth S false ((r + 8 - n % 8) % 8) (back n r))
+pub marks_moved : (n : ℕ) (S : Residues) → each_of (moved n (set_of (each_of S))) ≡ each_of (moved n S)
+marks_moved n S = each_same (moved n (set_of (each_of S))) (moved n S) (λ r. eighth S false ((r + 8 - n % 8) % 8) (back n r))
 
-pub moved_shown : (n : ℕ) (a b : List Bool) → b ≡ each_of (moved n (mark_at a)) → Shown (moved n) a b
-moved_shown n a b is = record { told = λ S e. is ∙ ap (λ (l : List Bool). each_of (moved n (mark_at l))) e ∙ marks_moved n S }
+pub moved_shown : (n : ℕ) (a b : List Bool) → b ≡ each_of (moved n (set_of a)) → Shown (moved n) a b
+moved_shown n a b is = record { told = λ S e. is ∙ ap (λ (l : List Bool). each_of (moved n (set_of l))) e ∙ marks_moved n S }
 
 pub kept_shown : (a : List Bool) → Shown (λ S. S) a a
 kept_shown a = record { told = λ S e. e }
 
-pub aligned_shown : (n : ℕ) (a b : List Bool) → is_width n ≡ true → b ≡ each_of (aligned n (mark_at a))
+pub aligned_shown : (n : ℕ) (a b : List Bool) → is_width n ≡ true → b ≡ each_of (aligned n (set_of a))
     → Shown (λ S. if is_width n then aligned n S else S) a b
 aligned_shown n a b w is = record {
-  told = λ S e. is ∙ ap (λ (l : List Bool). each_of (aligned n (mark_at l))) e
+  told = λ S e. is ∙ ap (λ (l : List Bool). each_of (aligned n (set_of l))) e
       ∙ ap (λ (x : Bool). each_of (if x then aligned n S else S)) (sym w);
 }
 

@@ -2,8 +2,10 @@
 use Rattle.std.proofs.Common.{◌≡◌, ℕ, min, Bool, true, false, ◌||◌, List, Option, Some, None, refl, sym, ap, ◌∙◌, arith}
 use Rattle.stub_flat.specs.Residues.{Residues, sum}
 use Rattle.stub_cover.specs.Rooms.{Rooms, lesser, least}
-use Rattle.stub_rooms.specs.RoomsShown.{each_of, mark_at, room_at, least_of}
-use Rattle.stub_rooms.proofs.RoomsEights.{eight_same, each_same}
+use Rattle.stub_rooms.specs.RoomsShown.{room_at, least_of}
+use Rattle.stub_places.specs.Sets.{each_of, set_of}
+use Rattle.stub_rooms.proofs.RoomsEights.{each_same}
+use Rattle.stub_places.proofs.Eights.{eight_same}
 
 min_assoc : (x y z : ℕ) → min (min x y) z ≡ min x (min y z)
 min_assoc x y z = omega arith
@@ -92,5 +94,5 @@ or_assoc true b c = refl
 or_assoc false b c = refl
 
 pub sum_assoc : (a : List Bool) (S T : Residues)
-    → each_of (sum (mark_at (each_of (sum (mark_at a) S))) T) ≡ each_of (sum (mark_at a) (sum S T))
-sum_assoc a S T = each_same (λ r. (mark_at a r || S r) || T r) (λ r. mark_at a r || (S r || T r)) (λ r. or_assoc (mark_at a r) (S r) (T r))
+    → each_of (sum (set_of (each_of (sum (set_of a) S))) T) ≡ each_of (sum (set_of a) (sum S T))
+sum_assoc a S T = each_same (λ r. (set_of a r || S r) || T r) (λ r. set_of a r || (S r || T r)) (λ r. or_assoc (set_of a r) (S r) (T r))

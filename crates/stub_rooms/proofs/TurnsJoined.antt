@@ -4,7 +4,8 @@ use Rattle.std.proofs.lemmas.Bool.{cases_lt}
 use Rattle.cast_stub.specs.Parts.{on_some}
 use Rattle.stub_cover.specs.Rooms.{Rooms, least, no_rooms}
 use Rattle.stub_cover.specs.Covers.{Turn, turns}
-use Rattle.stub_rooms.specs.RoomsShown.{each_of, room_at, least_of, Follows}
+use Rattle.stub_rooms.specs.RoomsShown.{room_at, least_of, Follows}
+use Rattle.stub_places.specs.Sets.{each_of}
 use Rattle.stub_rooms.specs.TurnsMade.{IsStart, IsBack, IsKept, IsAnew, IsFarther, IsNext}
 use Rattle.stub_rooms.specs.declared.turns.Turning.{Turning}
 use Rattle.stub_rooms.proofs.RoomsLesser.{IsLow, least_assoc, least_same, low_first, low_second}

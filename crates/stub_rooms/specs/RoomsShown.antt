@@ -1,17 +1,10 @@
--- Sets of residues and rooms as lists of eight.
-use Rattle.std.specs.Prelude.{◌≡◌, ℕ, Bool, false, List, [], ◌∷◌, Option, None, option_map, slice_index_or, if◌then◌else◌}
+-- Rooms as lists of eight, and what lists of eight show.
+use Rattle.std.specs.Prelude.{◌≡◌, ℕ, Bool, List, Option, None, option_map, slice_index_or, if◌then◌else◌}
 use Rattle.cast_stub.specs.Parts.{on_some}
 use Rattle.stub_flat.specs.Residues.{Residues}
 use Rattle.stub_cover.specs.Rooms.{Rooms, least}
 use Rattle.stub_cover.specs.Covers.{Turn}
-
--- the values at the residues 0 to 7
-abbrev pub each_of : {A : Type 0} → (ℕ → A) → List A
-each_of f = f 0 ∷ f 1 ∷ f 2 ∷ f 3 ∷ f 4 ∷ f 5 ∷ f 6 ∷ f 7 ∷ []
-
--- the set of a list
-abbrev pub mark_at : List Bool → Residues
-mark_at xs r = slice_index_or xs r false
+use Rattle.stub_places.specs.Sets.{each_of}
 
 -- the rooms of a list
 abbrev pub room_at : List (Option ℕ) → Rooms

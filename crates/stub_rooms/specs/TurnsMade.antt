@@ -1,7 +1,8 @@
 -- Turns one after the other, until rooms come back.
 use Rattle.std.specs.Prelude.{◌≡◌, ℕ, ◌+◌, Bool, List, Option, MatchBool, ◌⊎◌}
 use Rattle.stub_cover.specs.Rooms.{no_rooms}
-use Rattle.stub_rooms.specs.RoomsShown.{each_of, least_of}
+use Rattle.stub_rooms.specs.RoomsShown.{least_of}
+use Rattle.stub_places.specs.Sets.{each_of}
 use Rattle.stub_rooms.specs.declared.turns.Turning.{Turning}
 
 -- no turns yet

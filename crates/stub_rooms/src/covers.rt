@@ -8,13 +8,13 @@ ghost use Rattle.stub_cover.specs.Covers.{covers_at, list_runs, run};
 ghost use Rattle.stub_rooms.specs.CoversLap.{nodes};
 
 use crate::covers_lap::Walk;
-use crate::covers_marks::every;
 use crate::covers_run::run;
 use crate::rooms::{bare, only_room};
 use cast_stub::{SendCode, SendOps};
 use kit_base::NoMemory;
 use mint::table::{Mint, NodeId};
 use std::alloc::Global;
+use stub_places::sets::every;
 
 /// How deep blocks may nest.
 const DEEPEST: u32 = 512;

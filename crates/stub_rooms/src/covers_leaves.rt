@@ -1,21 +1,22 @@
 //! To which residues code leads.
 
-ghost use Rattle.std.specs.Prelude.{◌≡◌, IfOk, if◌then◌else◌};
+ghost use Rattle.std.specs.Prelude.{◌≡◌, ◌<◌, IfOk, is_some, if◌then◌else◌};
 ghost use Rattle.cast_stub.specs.Steps.{is_width};
 ghost use Rattle.cast_stub.specs.Block.{op_seen, code_seen, cases_seen};
 ghost use Rattle.stub_flat.specs.Places.{node_of, spot_at, row_kind};
 ghost use Rattle.stub_flat.specs.Leaves.{leaves, ways_leave, width_of};
 ghost use Rattle.stub_flat.specs.Residues.{aligned, closed, moved};
-ghost use Rattle.stub_cover.specs.Rooms.{Rooms as AllRooms};
-ghost use Rattle.stub_rooms.specs.RoomsShown.{Shown, each_of};
+ghost use Rattle.stub_cover.specs.Rooms.{Rooms as AllRooms, reached};
+ghost use Rattle.stub_rooms.specs.RoomsShown.{Shown, room_at};
+ghost use Rattle.stub_places.specs.Sets.{each_of};
 ghost use Rattle.stub_rooms.specs.CoversLap.{nodes, Leads, leaves_of, reach_of};
 
 use crate::covers_lap::{Lap, Walk, place_at};
-use crate::covers_marks::{Marks, aligned, every, is_within, moved, none, reached, size, sum};
-use crate::rooms::Rooms;
+use crate::rooms::{Rooms, room};
 use cast_stub::{Path, SendCases, SendOp, SendOps};
 use kit_base::NoMemory;
 use mint::table::NodeId;
+use stub_places::sets::{Set, aligned, every, is_within, moved, none, size, sum};
 use stub_places::{
     arm_spot_at, element_at, is_width, present_at, rest_spot_at, row_kind_at, spend_op, spend_ways,
     width_of,
@@ -26,10 +27,10 @@ use stub_places::{
 fn leaves(
     ops: &SendOps,
     spot: Option<NodeId>,
-    marks: &Marks,
+    marks: &Set,
     walk: &Walk<'_>,
     left: &mut u64,
-) -> Result<Marks, NoMemory>
+) -> Result<Set, NoMemory>
     ensures { IfOk result (λ m. Shown (leaves (nodes walk.now) spot (code_seen ops.now)) marks.now m) }
 {
     let inner = walk.deeper()?;
@@ -46,10 +47,10 @@ fn leaves(
 fn leave_op(
     op: &SendOp,
     spot: Option<NodeId>,
-    marks: &Marks,
+    marks: &Set,
     walk: &Walk<'_>,
     left: &mut u64,
-) -> Result<Marks, NoMemory>
+) -> Result<Set, NoMemory>
     ensures { IfOk result (λ m. Leads (nodes walk.now) spot (op_seen op.now) marks.now m) }
 {
     match op {
@@ -78,7 +79,7 @@ fn leave_op(
 }
 
 /// Behind zeros up to a multiple.
-fn leave_align(a: u32, marks: &Marks) -> Marks
+fn leave_align(a: u32, marks: &Set) -> Set
     ensures { Shown (λ S. if is_width a then aligned a S else S) marks.now result }
 {
     if is_width(a) {
@@ -93,10 +94,10 @@ fn leave_align(a: u32, marks: &Marks) -> Marks
 fn leave_row(
     path: &Path,
     spot: Option<NodeId>,
-    marks: &Marks,
+    marks: &Set,
     walk: &Walk<'_>,
     left: &mut u64,
-) -> Result<Marks, NoMemory>
+) -> Result<Set, NoMemory>
     ensures { IfOk result (λ m. let n = node_of (nodes walk.now) (spot_at (nodes walk.now) path.now spot) in
         Shown (closed (moved (width_of (row_kind n)))) marks.now m) }
 {
@@ -111,10 +112,10 @@ fn leave_ways(
     cases: &SendCases,
     last: &Option<SendOps>,
     place: Option<NodeId>,
-    marks: &Marks,
+    marks: &Set,
     walk: &Walk<'_>,
     left: &mut u64,
-) -> Result<Marks, NoMemory>
+) -> Result<Set, NoMemory>
     ensures { IfOk result (λ m. let cs = cases_seen cases.now last.now in
         Shown (ways_leave (nodes walk.now) (node_of (nodes walk.now) place) cs cs) marks.now m) }
 {
@@ -135,12 +136,7 @@ fn leave_ways(
 
 /// Behind one lap of a loop.
 #[cycle(leaves)]
-fn leave_lap(
-    lap: Lap<'_>,
-    marks: &Marks,
-    walk: &Walk<'_>,
-    left: &mut u64,
-) -> Result<Marks, NoMemory>
+fn leave_lap(lap: Lap<'_>, marks: &Set, walk: &Walk<'_>, left: &mut u64) -> Result<Set, NoMemory>
     ensures { IfOk result (λ m. Shown (leaves_of (nodes walk.now) lap.entry) marks.now m) }
 {
     match lap {
@@ -153,10 +149,10 @@ fn leave_lap(
 #[cycle(leaves)]
 pub(crate) fn closed(
     lap: Lap<'_>,
-    marks: &Marks,
+    marks: &Set,
     walk: &Walk<'_>,
     left: &mut u64,
-) -> Result<Marks, NoMemory>
+) -> Result<Set, NoMemory>
     ensures { IfOk result (λ m. Shown (closed (leaves_of (nodes walk.now) lap.entry)) marks.now m) }
 {
     let mut all = *marks;
@@ -171,13 +167,36 @@ pub(crate) fn closed(
     Ok(all)
 }
 
+fn reached_at(rooms: &Rooms, r: usize) -> bool
+    requires { r < 8 }
+    ensures { result ≡ is_some (room_at rooms.now r) }
+{
+    room(rooms, r).is_some()
+}
+
+/// The residues to which a way leads.
+fn reached(rooms: &Rooms) -> Set
+    ensures { result ≡ each_of (reached (room_at rooms.now)) }
+{
+    [
+        reached_at(rooms, 0),
+        reached_at(rooms, 1),
+        reached_at(rooms, 2),
+        reached_at(rooms, 3),
+        reached_at(rooms, 4),
+        reached_at(rooms, 5),
+        reached_at(rooms, 6),
+        reached_at(rooms, 7),
+    ]
+}
+
 /// The residues that a loop comes to.
 pub(crate) fn reach(
     lap: Lap<'_>,
     rooms: &Rooms,
     walk: &Walk<'_>,
     left: &mut u64,
-) -> Result<Marks, NoMemory>
+) -> Result<Set, NoMemory>
     ensures { IfOk result
         (λ m. (R : AllRooms) → rooms.now ≡ each_of R → m ≡ each_of (reach_of (nodes walk.now) lap.entry R)) }
 {

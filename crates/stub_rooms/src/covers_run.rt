@@ -5,13 +5,13 @@ ghost use Rattle.cast_stub.specs.Block.{op_seen, code_seen, cases_seen};
 ghost use Rattle.stub_flat.specs.Places.{node_of};
 ghost use Rattle.stub_cover.specs.Rooms.{Rooms as AllRooms, least, only_room};
 ghost use Rattle.stub_cover.specs.Covers.{run, run_ways, suffices, turns, free_loop, bounded_loop, bare_loop};
-ghost use Rattle.stub_rooms.specs.RoomsShown.{Follows, mark_at};
+ghost use Rattle.stub_rooms.specs.RoomsShown.{Follows};
+ghost use Rattle.stub_places.specs.Sets.{set_of};
 ghost use Rattle.stub_rooms.specs.CoversStanding.{Steps, maybe_loop};
 ghost use Rattle.stub_rooms.specs.CoversLap.{nodes, turn_of, reach_of, is_plain_lap};
 
 use crate::covers_lap::{Lap, Walk, place_at};
 use crate::covers_leaves::reach;
-use crate::covers_marks::{Marks, every, mark};
 use crate::covers_plain::is_plain_lap;
 use crate::covers_standing::{
     Looping, Standing, each_loop, few, go_on, go_on_bare, image_loop, run_align, run_ensure_row,
@@ -24,6 +24,7 @@ use crate::turns::{turn_on, turning_from};
 use cast_stub::{Path, SendCases, SendOp, SendOps};
 use kit_base::NoMemory;
 use mint::table::NodeId;
+use stub_places::sets::{Set, contains, every};
 use stub_places::{arm_spot_at, present_at, rest_spot_at, spend, spend_op, spend_ways};
 
 /// The rooms behind operations over a place, from a state without a credit.
@@ -261,15 +262,15 @@ fn suffices_at(
     lap: Lap<'_>,
     unit: u32,
     r: usize,
-    marks: &Marks,
+    marks: &Set,
     walk: &Walk<'_>,
     left: &mut u64,
 ) -> Result<bool, NoMemory>
     requires { r < 8 }
     ensures { IfOk result (λ b. let f = turn_of (nodes walk.now) lap.entry in
-        b ≡ (not (mark_at marks.now r) || is_some (f (only_room r unit)))) }
+        b ≡ (not (set_of marks.now r) || is_some (f (only_room r unit)))) }
 {
-    let marked = mark(marks, r);
+    let marked = contains(marks, r);
     if !marked {
         return Ok(true);
     }
@@ -283,12 +284,12 @@ fn suffices_at(
 fn suffices(
     lap: Lap<'_>,
     unit: u32,
-    marks: &Marks,
+    marks: &Set,
     walk: &Walk<'_>,
     left: &mut u64,
 ) -> Result<bool, NoMemory>
     ensures { IfOk result (λ b. let f = turn_of (nodes walk.now) lap.entry in
-        b ≡ suffices 8 f unit (mark_at marks.now)) }
+        b ≡ suffices 8 f unit (set_of marks.now)) }
 {
     for r in 0..8 {
         let enough = suffices_at(lap, unit, r, marks, walk, left)?;

@@ -9,7 +9,8 @@ ghost use Rattle.cast_stub.specs.Block.{code_seen, ensure_row};
 ghost use Rattle.stub_flat.specs.Places.{node_of, row_kind, spot_at};
 ghost use Rattle.stub_cover.specs.Rooms.{Rooms as AllRooms, padded, set};
 ghost use Rattle.stub_cover.specs.Covers.{run_row, unit_of, most_turns};
-ghost use Rattle.stub_rooms.specs.RoomsShown.{Follows, each_of, room_at};
+ghost use Rattle.stub_rooms.specs.RoomsShown.{Follows, room_at};
+ghost use Rattle.stub_places.specs.Sets.{each_of};
 ghost use Rattle.stub_rooms.specs.CoversLap.{nodes};
 ghost use Rattle.stub_rooms.specs.CoversStanding.{credit, credit_of, each_turn, few, loop_of, maybe_loop, GoesOn, Steps};
 

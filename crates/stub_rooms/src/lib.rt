@@ -4,7 +4,6 @@
 mod covers;
 mod covers_lap;
 mod covers_leaves;
-mod covers_marks;
 mod covers_plain;
 mod covers_run;
 mod covers_standing;

@@ -4,9 +4,10 @@ ghost use Rattle.std.specs.Prelude.{◌≡◌, ℕ, true, ◌+◌, ◌-◌, ◌%
 ghost use Rattle.wire_def.specs.Scalars.{gap};
 ghost use Rattle.cast_stub.specs.Steps.{is_width};
 ghost use Rattle.stub_cover.specs.Rooms.{lesser, least, no_rooms, only_room, on, raised, set, has, have_first, took, padded_one, padded_first, padded, least_first};
-ghost use Rattle.stub_rooms.specs.RoomsShown.{each_of, mark_at, room_at, least_of, spread, joined};
+ghost use Rattle.stub_rooms.specs.RoomsShown.{room_at, least_of, spread, joined};
+ghost use Rattle.stub_places.specs.Sets.{each_of, set_of};
 
-use crate::covers_marks::{Marks, before, both, gap, mark};
+use stub_places::sets::{Set, before, both, contains, gap};
 
 /// A room for each residue, none where no way leads there.
 pub(crate) type Rooms = [Option<u64>; 8];
@@ -84,16 +85,16 @@ pub(crate) fn only_room(n: usize, x: u64) -> Rooms
     ]
 }
 
-fn spread_at(marks: &Marks, x: Option<u64>, r: usize) -> Option<u64>
+fn spread_at(marks: &Set, x: Option<u64>, r: usize) -> Option<u64>
     requires { r < 8 }
-    ensures { result ≡ (if mark_at marks.now r then x else None) }
+    ensures { result ≡ (if set_of marks.now r then x else None) }
 {
-    if mark(marks, r) { x } else { None }
+    if contains(marks, r) { x } else { None }
 }
 
 /// The same room, if there is one, at each residue of a set.
-pub(crate) fn spread(marks: &Marks, x: Option<u64>) -> Rooms
-    ensures { result ≡ each_of (spread (mark_at marks.now) x) }
+pub(crate) fn spread(marks: &Set, x: Option<u64>) -> Rooms
+    ensures { result ≡ each_of (spread (set_of marks.now) x) }
 {
     [
         spread_at(marks, x, 0),
@@ -108,8 +109,8 @@ pub(crate) fn spread(marks: &Marks, x: Option<u64>) -> Rooms
 }
 
 /// No room at each residue of a set.
-pub(crate) fn bare(marks: &Marks) -> Rooms
-    ensures { result ≡ each_of (on (mark_at marks.now) 0) }
+pub(crate) fn bare(marks: &Set) -> Rooms
+    ensures { result ≡ each_of (on (set_of marks.now) 0) }
 {
     spread(marks, Some(0))
 }

@@ -2,7 +2,7 @@ use Rattle.std.proofs.Common.{ℕ, List, None, Some, ap, ◌∙◌, sym, refl, a
 use Rattle.cast_stub.specs.Block.{ensure, ensure_row, align, chunk, row_copy, row_swap, row_wide, each, switch, if_there, call, patch, op_seen, code_seen, cases_seen}
 use Rattle.cast_stub.proofs.Pieces.{seen-Ensure, seen-EnsureRow, seen-Align, seen-Chunk, seen-RowCopy, seen-RowSwap, seen-RowWide, seen-Each, seen-Switch, seen-Some, seen-Call, seen-Patch}
 use Rattle.stub_flat.specs.Places.{Spot, node_of, spot_at, element, present}
-use Rattle.stub_compare.specs.CompareSets.{set_of}
+use Rattle.stub_places.specs.Sets.{set_of}
 use Rattle.stub_compare.proofs.CompareOps.{told_ensure}
 use Rattle.stub_compare.proofs.CompareRows.{told_patch}
 use Rattle.stub_compare.proofs.CompareArms.{seen_put, if_seen_put, if_for, if_for_all, if_switch, length_put, length_nothing, each_at, each_not_at, some_at, some_not_at, left_all, left_one, left_nothing, left_none, ways_all, ways_one, ways_nothing, ways_last, ways_last_nothing, no_ways, ways_end}

@@ -4,7 +4,7 @@ use Rattle.cast_stub.specs.declared.send.SendOp.TheShapes.{weighed-SendOp-Switch
 use Rattle.cast_stub.proofs.send.SendOp.TheLaws.{the_size}
 use Rattle.cast_stub.specs.Block.{cases_seen}
 use Rattle.stub_flat.specs.Places.{node_of}
-use Rattle.stub_compare.specs.CompareSets.{set_of}
+use Rattle.stub_places.specs.Sets.{set_of}
 use Rattle.stub_compare.proofs.CompareArms.{AreLeft, IsLeft}
 use Rattle.stub_compare.proofs.compare_items.+put.Given as goal
 

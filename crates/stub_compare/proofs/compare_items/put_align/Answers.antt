@@ -1,7 +1,7 @@
 use Rattle.std.proofs.Common.{sym, ◌∙◌}
 use Rattle.cast_stub.specs.Block.{align}
 use Rattle.stub_flat.specs.Residues.{aligned}
-use Rattle.stub_compare.specs.CompareSets.{set_of}
+use Rattle.stub_places.specs.Sets.{set_of}
 use Rattle.stub_compare.proofs.CompareTables.{agree_each}
 use Rattle.stub_compare.proofs.CompareOps.{told_align, untold_align}
 use Rattle.stub_compare.proofs.CompareArms.{nothing_put}

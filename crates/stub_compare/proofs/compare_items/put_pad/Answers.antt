@@ -1,5 +1,5 @@
 use Rattle.std.proofs.lemmas.Result.{on_ok_weaker}
-use Rattle.stub_compare.specs.CompareSets.{set_of}
+use Rattle.stub_places.specs.Sets.{set_of}
 use Rattle.stub_compare.proofs.CompareArms.{zeros_put, multiple_put}
 use Rattle.stub_compare.proofs.compare_items.put_pad.Goals as goal
 

@@ -1,6 +1,6 @@
 use Rattle.std.proofs.Common.{ℕ, List, None, Some, ap, ◌∙◌}
 use Rattle.stub_flat.specs.Places.{spot_at}
-use Rattle.stub_compare.specs.CompareSets.{set_of}
+use Rattle.stub_places.specs.Sets.{set_of}
 use Rattle.stub_compare.proofs.CompareArms.{kind_at, row_at, row_nothing, width_wide}
 use Rattle.stub_compare.proofs.compare_items.put_row.Goals as goal
 

@@ -1,5 +1,6 @@
 use Rattle.std.proofs.Common.{◌≡◌, List, Bool, ap, ◌∙◌, arith}
-use Rattle.stub_compare.specs.CompareSets.{applied, set_of}
+use Rattle.stub_compare.specs.CompareSets.{applied}
+use Rattle.stub_places.specs.Sets.{set_of}
 use Rattle.stub_compare.proofs.CompareTables.{applied_more}
 use Rattle.stub_compare.proofs.compare_tables.applied.Goals as goal
 

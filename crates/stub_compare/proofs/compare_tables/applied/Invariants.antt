@@ -1,4 +1,5 @@
-use Rattle.stub_compare.specs.CompareSets.{Agree, applied, set_of}
+use Rattle.stub_compare.specs.CompareSets.{Agree, applied}
+use Rattle.stub_places.specs.Sets.{set_of}
 use Rattle.stub_compare.proofs.compare_tables.applied.Given as goal
 
 -- what is made of the residues so far

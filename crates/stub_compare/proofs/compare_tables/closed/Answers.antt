@@ -1,6 +1,7 @@
 use Rattle.std.proofs.Common.{◌-◌, sym, ap, ◌∙◌}
 use Rattle.stub_flat.specs.Residues.{closing, closed}
-use Rattle.stub_compare.specs.CompareSets.{applied, set_of}
+use Rattle.stub_compare.specs.CompareSets.{applied}
+use Rattle.stub_places.specs.Sets.{set_of}
 use Rattle.stub_compare.proofs.CompareTables.{agree_each, each_agree, turn_ends, turn_goes, turns_end}
 use Rattle.stub_compare.proofs.compare_tables.closed.Goals as goal
 

@@ -1,6 +1,7 @@
 use Rattle.std.proofs.Common.{◌-◌}
 use Rattle.stub_flat.specs.Residues.{closing, closed}
-use Rattle.stub_compare.specs.CompareSets.{Agree, applied, set_of}
+use Rattle.stub_compare.specs.CompareSets.{Agree, applied}
+use Rattle.stub_places.specs.Sets.{set_of}
 use Rattle.stub_compare.proofs.compare_tables.closed.Given as goal
 
 -- what the turns that are left make of the set so far

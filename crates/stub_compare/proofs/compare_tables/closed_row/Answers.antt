@@ -1,6 +1,7 @@
 use Rattle.std.proofs.Common.{ap, ◌∙◌, List, Bool}
 use Rattle.stub_flat.specs.Residues.{closed}
-use Rattle.stub_compare.specs.CompareSets.{applied, each_of, set_of}
+use Rattle.stub_compare.specs.CompareSets.{applied}
+use Rattle.stub_places.specs.Sets.{each_of, set_of}
 use Rattle.stub_compare.proofs.compare_tables.closed_row.Goals as goal
 
 pub returns : goal.returns

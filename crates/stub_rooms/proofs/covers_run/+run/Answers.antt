@@ -7,7 +7,8 @@ use Rattle.stub_flat.specs.Places.{node_of, spot_at, present}
 use Rattle.stub_flat.specs.Residues.{every}
 use Rattle.stub_cover.specs.Rooms.{Rooms, least, on, raised, took, padded, only_room}
 use Rattle.stub_cover.specs.Covers.{run, run_ways}
-use Rattle.stub_rooms.specs.RoomsShown.{Follows, each_of, mark_at, spread}
+use Rattle.stub_rooms.specs.RoomsShown.{Follows, spread}
+use Rattle.stub_places.specs.Sets.{each_of, set_of}
 use Rattle.stub_rooms.specs.CoversLap.{nodes, turn_of, reach_of, is_plain_lap}
 use Rattle.stub_rooms.specs.CoversStanding.{credit, loop_of, maybe_loop}
 use Rattle.stub_rooms.proofs.RoomsEights.{took_follows}
@@ -135,7 +136,7 @@ run_op-returns-in-Call t c =
     let x = c.in-Call in
     steps_by _ _ c.args.op.now (call x.field-0 x.field-1) (λ R. Some (on every 0)) None _ _ _ _
     (ap op_seen x.is ∙ seen-Call x.field-0 x.field-1) (λ r R. refl)
-    (bare_follows _ _ (c.bare.ensures ∙ ap (λ (l : List Bool). each_of (on (mark_at l) 0)) c.every.ensures)) c.go_on_bare-in-Call.ensures
+    (bare_follows _ _ (c.bare.ensures ∙ ap (λ (l : List Bool). each_of (on (set_of l) 0)) c.every.ensures)) c.go_on_bare-in-Call.ensures
 
 -- ---- bodies of a switch, and what may be there
 
@@ -223,7 +224,7 @@ run_free-returns t c =
     let plain = is_plain_lap c.args.lap in
     free_is f reach plain _ c.args.unit _ c.in_ok-plain.ensures c.in-Some.unit _ _ _ c.in-Some.is c.if-not-plain.false
     c.in_ok-reach.ensures c.in_ok-enough.ensures c.if-not-enough.false
-    (c.spread.ensures ∙ ap (λ (z : Option ℕ). each_of (spread (mark_at c.in_ok-reach.reach) z)) c.lowest.ensures)
+    (c.spread.ensures ∙ ap (λ (z : Option ℕ). each_of (spread (set_of c.in_ok-reach.reach) z)) c.lowest.ensures)
 
 pub run_bare-returns-in-Some : goal.run_bare-returns-in-Some
 run_bare-returns-in-Some t c =
@@ -248,32 +249,32 @@ pub run_bounded-returns-in-None : goal.run_bounded-returns-in-None
 run_bounded-returns-in-None t c = bounded_none _ _ _ (sym c.few.ensures ∙ c.in-None.is)
 
 pub suffices_at-returns-then-not-marked : goal.suffices_at-returns-then-not-marked
-suffices_at-returns-then-not-marked t c = unmarked _ _ _ c.mark-marked.ensures c.if-not-marked.true
+suffices_at-returns-then-not-marked t c = unmarked _ _ _ c.contains-marked.ensures c.if-not-marked.true
 
 pub suffices_at-returns : goal.suffices_at-returns
 suffices_at-returns t c =
     let f = turn_of (nodes c.args.walk.now) c.args.lap in
-    marked _ _ _ _ c.mark-marked.ensures c.if-not-marked.false
+    marked _ _ _ _ c.contains-marked.ensures c.if-not-marked.false
     (c.is_some.ensures ∙ some_shown f (only_room c.args.r c.args.unit) _ _
     (c.only_room-start.ensures ∙ ap (λ n. each_of (only_room c.args.r n)) c.from.ensures) c.in_ok-end.ensures)
 
 pub suffices-loop-r-preserved : goal.suffices-loop-r-preserved
 suffices-loop-r-preserved t c =
     let f = turn_of (nodes c.args.walk.now) c.args.lap in
-    suffices_more f c.args.unit (mark_at c.args.marks.now) c.loop-r.r _ c.loop-r.invariant c.in_ok-enough.ensures
+    suffices_more f c.args.unit (set_of c.args.marks.now) c.loop-r.r _ c.loop-r.invariant c.in_ok-enough.ensures
     c.if-not-enough.false
 
 pub suffices-returns-then-not-enough : goal.suffices-returns-then-not-enough
 suffices-returns-then-not-enough t c =
     let f = turn_of (nodes c.args.walk.now) c.args.lap in
-    suffices_lacks f c.args.unit (mark_at c.args.marks.now) c.loop-r.r _ c.loop-r-test.true c.in_ok-enough.ensures
+    suffices_lacks f c.args.unit (set_of c.args.marks.now) c.loop-r.r _ c.loop-r-test.true c.in_ok-enough.ensures
     c.if-not-enough.true
 
 pub suffices-returns : goal.suffices-returns
 suffices-returns t c =
     let all : c.loop-r.r ≡ 8 = omega (arith, c.loop-r-test.false) in
     let f = turn_of (nodes c.args.walk.now) c.args.lap in
-    suffices_all f c.args.unit (mark_at c.args.marks.now) c.loop-r.r c.loop-r.invariant all
+    suffices_all f c.args.unit (set_of c.args.marks.now) c.loop-r.r c.loop-r.invariant all
 
 pub turns-loop-init : goal.turns-loop-init
 turns-loop-init t c = made_none _ _ _ c.turning_from-turning.ensures

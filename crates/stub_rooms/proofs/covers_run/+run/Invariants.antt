@@ -2,7 +2,7 @@ use Rattle.std.proofs.Common.{◌≡◌, ◌+◌, ◌*◌, true, drop}
 use Rattle.cast_stub.specs.Block.{cases_seen}
 use Rattle.stub_flat.specs.Places.{node_of}
 use Rattle.stub_cover.specs.Covers.{suffices}
-use Rattle.stub_rooms.specs.RoomsShown.{mark_at}
+use Rattle.stub_places.specs.Sets.{set_of}
 use Rattle.stub_rooms.specs.CoversLap.{nodes, turn_of}
 use Rattle.stub_rooms.proofs.CoversGoing.{RunLeft, WaysRun}
 use Rattle.stub_rooms.proofs.TurnsJoined.{Made}
@@ -16,7 +16,7 @@ invariant-run_ways-loop-case l = WaysRun (nodes l.walk) (node_of (nodes l.walk) 
     (cases_seen l.case-items l.last) (cases_seen (drop l.case-index l.case-items) l.last) l.rooms l.low
 
 abbrev pub invariant-suffices-loop-r : goal.invariant-suffices-loop-r
-invariant-suffices-loop-r l = suffices l.r (turn_of (nodes l.walk) l.lap) l.unit (mark_at l.marks) ≡ true
+invariant-suffices-loop-r l = suffices l.r (turn_of (nodes l.walk) l.lap) l.unit (set_of l.marks) ≡ true
 
 abbrev pub invariant-turns-loop : goal.invariant-turns-loop
 invariant-turns-loop l = Made (turn_of (nodes l.walk) l.lap) l.fn.rooms l.counter l.turning

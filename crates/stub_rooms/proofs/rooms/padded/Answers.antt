@@ -1,7 +1,8 @@
 use Rattle.std.proofs.Common.{◌≡◌, option_map, ap, ◌∙◌, arith}
 use Rattle.stub_cover.specs.Rooms.{padded_first}
 use Rattle.stub_cover.specs.Rooms.{padded_one as the_one}
-use Rattle.stub_rooms.specs.RoomsShown.{each_of, room_at}
+use Rattle.stub_rooms.specs.RoomsShown.{room_at}
+use Rattle.stub_places.specs.Sets.{each_of}
 use Rattle.stub_rooms.proofs.RoomsEights.{padded_more}
 use Rattle.stub_rooms.proofs.rooms.padded.Goals as goal
 

@@ -4,12 +4,13 @@ ghost use Rattle.std.specs.Prelude.{◌≡◌, true, ◌+◌, ◌-◌, ◌%◌, 
 ghost use Rattle.wire_def.specs.Scalars.{gap};
 ghost use Rattle.cast_stub.specs.Steps.{is_width};
 ghost use Rattle.stub_flat.specs.Residues.{aligned, comes, every, is_within, moved, none, only, single_first, size_first, sum};
-ghost use Rattle.stub_compare.specs.CompareSets.{each_of, set_of};
+ghost use Rattle.stub_places.specs.Sets.{each_of, set_of};
 
 /// Which of the residues 0 to 7 are in a set.
-pub(crate) type Set = [bool; 8];
+pub type Set = [bool; 8];
 
-fn both(a: bool, b: bool) -> bool
+/// Whether both are true, without a branch.
+pub fn both(a: bool, b: bool) -> bool
     ensures { result ≡ (a && b) }
 {
     a && b
@@ -22,7 +23,7 @@ fn either(a: bool, b: bool) -> bool
 }
 
 /// Whether a residue is in a set.
-pub(crate) fn has(set: &Set, r: usize) -> bool
+pub fn contains(set: &Set, r: usize) -> bool
     requires { r < 8 }
     ensures { result ≡ set_of set.now r }
 {
@@ -36,7 +37,7 @@ fn is_at(r: usize, k: usize) -> bool
 }
 
 /// One residue; no residue where it is 8.
-pub(crate) fn only(k: usize) -> Set
+pub fn only(k: usize) -> Set
     ensures { result ≡ each_of (only k) }
 {
     [
@@ -52,14 +53,14 @@ pub(crate) fn only(k: usize) -> Set
 }
 
 /// Every residue.
-pub(crate) fn every() -> Set
+pub fn every() -> Set
     ensures { result ≡ each_of every }
 {
     [true; 8]
 }
 
 /// No residue.
-pub(crate) fn none() -> Set
+pub fn none() -> Set
     ensures { result ≡ each_of none }
 {
     [false; 8]
@@ -69,11 +70,11 @@ fn sum_at(a: &Set, b: &Set, r: usize) -> bool
     requires { r < 8 }
     ensures { result ≡ (set_of a.now r || set_of b.now r) }
 {
-    either(has(a, r), has(b, r))
+    either(contains(a, r), contains(b, r))
 }
 
 /// Those of one or the other.
-pub(crate) fn sum(a: &Set, b: &Set) -> Set
+pub fn sum(a: &Set, b: &Set) -> Set
     ensures { result ≡ each_of (sum (set_of a.now) (set_of b.now)) }
 {
     [
@@ -89,23 +90,23 @@ pub(crate) fn sum(a: &Set, b: &Set) -> Set
 }
 
 /// The same residues.
-pub(crate) fn copied(set: &Set) -> Set
+pub fn copied(set: &Set) -> Set
     ensures { result ≡ each_of (set_of set.now) }
 {
     [
-        has(set, 0),
-        has(set, 1),
-        has(set, 2),
-        has(set, 3),
-        has(set, 4),
-        has(set, 5),
-        has(set, 6),
-        has(set, 7),
+        contains(set, 0),
+        contains(set, 1),
+        contains(set, 2),
+        contains(set, 3),
+        contains(set, 4),
+        contains(set, 5),
+        contains(set, 6),
+        contains(set, 7),
     ]
 }
 
 /// The residue from which so many octets lead to another.
-fn before(n: u32, r: usize) -> usize
+pub fn before(n: u32, r: usize) -> usize
     requires { r < 8 }
     ensures is { result ≡ (r + 8 - n % 8) % 8 }
     ensures below { result < 8 }
@@ -117,11 +118,11 @@ fn moved_at(n: u32, set: &Set, r: usize) -> bool
     requires { r < 8 }
     ensures { result ≡ set_of set.now ((r + 8 - n % 8) % 8) }
 {
-    has(set, before(n, r))
+    contains(set, before(n, r))
 }
 
 /// Those to which octets lead.
-pub(crate) fn moved(n: u32, set: &Set) -> Set
+pub fn moved(n: u32, set: &Set) -> Set
     ensures { result ≡ each_of (moved n (set_of set.now)) }
 {
     [
@@ -137,7 +138,7 @@ pub(crate) fn moved(n: u32, set: &Set) -> Set
 }
 
 /// How many octets lead to a multiple.
-pub(crate) fn gap(r: usize, a: u32) -> usize
+pub fn gap(r: usize, a: u32) -> usize
     requires width { is_width a ≡ true }
     ensures is { result ≡ gap r a }
     ensures below { result < 8 }
@@ -160,7 +161,7 @@ fn comes_from(k: usize, a: u32, set: &Set, r: usize) -> bool
     requires below { k < 8 }
     ensures { result ≡ (set_of set.now k && nat_eq ((k + gap k a) % 8) r) }
 {
-    both(has(set, k), leads(k, a, r))
+    both(contains(set, k), leads(k, a, r))
 }
 
 /// Whether an align leads to a residue.
@@ -176,7 +177,7 @@ fn aligned_at(a: u32, set: &Set, r: usize) -> bool
 }
 
 /// Those to which an align leads.
-pub(crate) fn aligned(a: u32, set: &Set) -> Set
+pub fn aligned(a: u32, set: &Set) -> Set
     requires { is_width a ≡ true }
     ensures { result ≡ each_of (aligned a (set_of set.now)) }
 {
@@ -196,11 +197,11 @@ fn is_within_at(a: &Set, b: &Set, r: usize) -> bool
     requires { r < 8 }
     ensures { result ≡ (not (set_of a.now r) || set_of b.now r) }
 {
-    either(!has(a, r), has(b, r))
+    either(!contains(a, r), contains(b, r))
 }
 
 /// Whether each residue of one is in the other.
-pub(crate) fn is_within(a: &Set, b: &Set) -> bool
+pub fn is_within(a: &Set, b: &Set) -> bool
     ensures { result ≡ is_within (set_of a.now) (set_of b.now) }
 {
     let mut all = true;
@@ -215,11 +216,11 @@ fn counted(set: &Set, r: usize) -> usize
     ensures is { result ≡ (if set_of set.now r then 1 else 0) }
     ensures most { result ≤ 1 }
 {
-    if has(set, r) { 1 } else { 0 }
+    if contains(set, r) { 1 } else { 0 }
 }
 
 /// How many residues there are.
-pub(crate) fn size(set: &Set) -> usize
+pub fn size(set: &Set) -> usize
     ensures is { result ≡ size_first 8 (set_of set.now) }
     ensures most { result ≤ 8 }
 {
@@ -234,11 +235,11 @@ fn later(set: &Set, r: usize, last: usize) -> usize
     requires { r < 8 }
     ensures { result ≡ (if set_of set.now r then r else last) }
 {
-    if has(set, r) { r } else { last }
+    if contains(set, r) { r } else { last }
 }
 
 /// The only residue, where there is one.
-pub(crate) fn single(set: &Set) -> usize
+pub fn single(set: &Set) -> usize
     ensures { result ≡ single_first 8 (set_of set.now) }
 {
     let mut last = 0;

@@ -1,7 +1,7 @@
 use Rattle.std.proofs.Common.{◌≡◌}
 use Rattle.stub_flat.specs.Residues.{within_first}
-use Rattle.stub_compare.specs.CompareSets.{set_of}
-use Rattle.stub_compare.proofs.compare_sets.is_within.Given as goal
+use Rattle.stub_places.specs.Sets.{set_of}
+use Rattle.stub_places.proofs.sets.is_within.Given as goal
 
 -- whether the residues so far are within
 abbrev pub invariant-loop-r : goal.invariant-loop-r

@@ -1,7 +1,7 @@
 use Rattle.std.proofs.Common.{◌≡◌, ap, ◌∙◌, arith}
 use Rattle.stub_flat.specs.Residues.{size_first}
-use Rattle.stub_compare.specs.CompareSets.{set_of}
-use Rattle.stub_compare.proofs.compare_sets.size.Goals as goal
+use Rattle.stub_places.specs.Sets.{set_of}
+use Rattle.stub_places.proofs.sets.size.Goals as goal
 
 pub returns-clause-is : goal.returns-clause-is
 returns-clause-is c =

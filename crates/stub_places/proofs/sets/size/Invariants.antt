@@ -1,7 +1,7 @@
 use Rattle.std.proofs.Common.{◌≡◌, ◌≤◌}
 use Rattle.stub_flat.specs.Residues.{size_first}
-use Rattle.stub_compare.specs.CompareSets.{set_of}
-use Rattle.stub_compare.proofs.compare_sets.size.Given as goal
+use Rattle.stub_places.specs.Sets.{set_of}
+use Rattle.stub_places.proofs.sets.size.Given as goal
 
 -- how many there are of the residues so far
 abbrev pub invariant-loop-r : goal.invariant-loop-r

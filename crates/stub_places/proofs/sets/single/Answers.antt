@@ -1,7 +1,7 @@
 use Rattle.std.proofs.Common.{◌≡◌, ap, ◌∙◌, arith}
 use Rattle.stub_flat.specs.Residues.{single_first}
-use Rattle.stub_compare.specs.CompareSets.{set_of}
-use Rattle.stub_compare.proofs.compare_sets.single.Goals as goal
+use Rattle.stub_places.specs.Sets.{set_of}
+use Rattle.stub_places.proofs.sets.single.Goals as goal
 
 pub returns : goal.returns
 returns c =

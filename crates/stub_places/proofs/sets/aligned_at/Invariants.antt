@@ -1,7 +1,7 @@
 use Rattle.std.proofs.Common.{◌≡◌}
 use Rattle.stub_flat.specs.Residues.{comes}
-use Rattle.stub_compare.specs.CompareSets.{set_of}
-use Rattle.stub_compare.proofs.compare_sets.aligned_at.Given as goal
+use Rattle.stub_places.specs.Sets.{set_of}
+use Rattle.stub_places.proofs.sets.aligned_at.Given as goal
 
 -- what is found of the residues so far
 abbrev pub invariant-loop-k : goal.invariant-loop-k
