@@ -1,6 +1,6 @@
 -- The arms of what comes back from an operation, by induction on the arms.
 use Rattle.std.proofs.Common.{◌≡◌, ◌≢◌, ◌+◌, ◌<◌, ◌≤◌, ℕ, suc, ℤ, pos, negsuc, Bool, true, false, List, [], ◌∷◌, length, Option, Some, None, refl, sym, ap, ◌∙◌, subst, int_eq, cond, arith}
-use Rattle.std.specs.Prelude.{is_some, IsTrue, unwrap_or, MatchBool}
+use Rattle.std.specs.Prelude.{is_some, IsTrue, unwrap_or, MatchBool, Result, Err}
 use Rattle.std.proofs.lemmas.Bool.{ltb-true, lt-ltb}
 use Rattle.std.proofs.lemmas.Bool.Decides.{Decides-int_eq}
 use Rattle.mint.specs.declared.kind.Kind.TheVariants as kind
@@ -12,10 +12,25 @@ use Rattle.cast_stub.specs.Draft.{type_of_arm}
 use Rattle.aoi.specs.Plain.{PlainRaise, PlainOperation}
 use Rattle.pres.specs.Faces.{Face, arm_types_of, type_of}
 use Rattle.pres.specs.Offers.{raised, reply_of}
+use Rattle.stub_machine.specs.declared.errors.SendErr.{SendErr}
+use Rattle.stub_machine.specs.declared.errors.SendErr.TheVariants as send
 use Rattle.stub_codes.specs.Stubs.{Coded, IsCoveredReply, IsSparingReply}
 use Rattle.wire_def.specs.declared.head.Head.{Head}
+use Rattle.flick_engine.specs.declared.errors.MarshalErr.{MarshalErr}
+use Rattle.flick_engine.specs.declared.errors.MarshalErr.TheVariants as marshal
 use Rattle.flick_engine.specs.Costs.{IsCoveredAnswer, IsSparingAnswer}
+use Rattle.flick_engine.specs.Messages.{refusal_of}
 use Rattle.flick_engine.specs.Replies.{IsChoice, arm_type_in}
+
+-- ---- a message is too long where its code is
+
+abbrev no_message : MarshalErr → Result (Unit {0}) MarshalErr
+no_message m = Err m
+
+pub long_stop : (r : Result (Unit {0}) SendErr) (w : SendErr) (m : MarshalErr) → r ≡ Err w → m ≡ refusal_of w
+    → no_message m ≡ no_message marshal.Long → r ≡ Err send.Long
+long_stop r send.Long m is same e = is
+long_stop r send.NoMemory m is same e = absurd cc
 
 -- ---- the type of an arm
 

@@ -11,7 +11,7 @@ use Rattle.head_kit.specs.declared.call_head.CallHead.{CallHead}
 use Rattle.pres.specs.Bindings.{Binding}
 use Rattle.back_xdr.specs.declared.call.OncCall.{OncCall}
 use Rattle.back_xdr.specs.Reported as onc
-use Rattle.giop_head.specs.declared.header.HeadKind.TheVariants.{Asks, Requests}
+use Rattle.giop_head.specs.declared.header.HeadKind.TheVariants.{Requests}
 use Rattle.giop_head.specs.Heads.{StopsWith}
 use Rattle.giop_head.specs.Printed.{header_octets, then_long}
 use Rattle.giop_head.specs.Reported.{requested, BeginsCall}

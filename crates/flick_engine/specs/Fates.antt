@@ -1,5 +1,5 @@
 -- How calls fare, by the heads of their replies.
-use Rattle.std.specs.Prelude.{Bool, true, false, ◌&&◌, nat_lt, ℕ, List, length, Option, None, Some}
+use Rattle.std.specs.Prelude.{Bool, true, false, ◌&&◌, not, nat_lt, ℕ, List, length, Option, None, Some, is_some}
 use Rattle.std.specs.List.{position_from}
 use Rattle.std.specs.Str.{bytes_eq}
 use Rattle.wire_def.specs.declared.encoding.Encoding.{Encoding}
@@ -47,6 +47,12 @@ fate_of ids (status.User id) = raised ids id.now
 fate_of ids (status.Raised k) = Arm k
 fate_of ids (status.System id minor completion) = Refused (refusal.SystemException id.now minor completion)
 fate_of ids (status.RetCode code) = Refused (refusal.RetCode code)
+
+-- the id of an exception is kept: that of one that the operation does not raise, or of a system exception
+abbrev pub copies_id : List (List ℕ) → Status → Bool
+copies_id ids (status.User id) = not (is_some (position_from (bytes_eq id.now) 1 ids))
+copies_id ids (status.System id minor completion) = true
+copies_id ids _ = false
 
 -- the status of a GIOP reply
 abbrev pub giop_fate : List (List ℕ) → giop.Fate → Fate

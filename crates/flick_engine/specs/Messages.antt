@@ -1,3 +1,12 @@
 -- The messages of calls.
+use Rattle.stub_machine.specs.declared.errors.SendErr.{SendErr}
+use Rattle.stub_machine.specs.declared.errors.SendErr.TheVariants as send
+use Rattle.flick_engine.specs.declared.errors.MarshalErr.{MarshalErr}
+use Rattle.flick_engine.specs.declared.errors.MarshalErr.TheVariants as marshal
 pub use Rattle.skeleton.specs.Exchanges.{request_type}
 pub use Rattle.stub_codes.specs.Messages.{message}
+
+-- why there is no message, by what ended its code
+abbrev pub refusal_of : SendErr → MarshalErr
+refusal_of send.Long = marshal.Long
+refusal_of send.NoMemory = marshal.NoMemory

@@ -3,8 +3,10 @@
 ghost use Rattle.std.specs.Prelude.{◌≡◌};
 ghost use Rattle.flick_engine.specs.declared.errors.MarshalErr.TheVariants.{NoMemory as NoMessage};
 ghost use Rattle.flick_engine.specs.declared.errors.MessageErr.TheVariants.{NoMemory as NoRequest};
+ghost use Rattle.flick_engine.specs.Messages.{refusal_of};
 
 use kit_base::NoMemory;
+use stub_machine::SendErr;
 use wire_def::{Fault, HeadErr};
 
 /// Why a request has no message.
@@ -21,6 +23,16 @@ impl From<NoMemory> for MarshalErr {
 
     fn from(_: NoMemory) -> MarshalErr {
         MarshalErr::NoMemory
+    }
+}
+
+/// Why there is no message, by what ended its code.
+pub(crate) fn refusal_of(why: SendErr) -> MarshalErr
+    ensures { result ≡ refusal_of why }
+{
+    match why {
+        SendErr::Long => MarshalErr::Long,
+        SendErr::NoMemory => MarshalErr::NoMemory,
     }
 }
 

@@ -1,10 +1,10 @@
 //! How calls fare by the heads of their replies.
 
-ghost use Rattle.std.specs.Prelude.{◌≡◌, IfOk};
+ghost use Rattle.std.specs.Prelude.{◌≡◌, IfOk, None, OnErr, true};
 ghost use Rattle.std.specs.List.{position_from};
 ghost use Rattle.std.specs.Str.{bytes_eq};
 ghost use Rattle.flick_engine.specs.Backs.{ids_over};
-ghost use Rattle.flick_engine.specs.Fates.{raised_at, fate_of};
+ghost use Rattle.flick_engine.specs.Fates.{copies_id, raised_at, fate_of};
 
 use crate::engine::Engine;
 use crate::replies::Fate;
@@ -14,7 +14,8 @@ use wire_def::{Back, Refusal, Status};
 
 /// How a call fared whose reply has a user exception of a number, or one that is not raised with this id.
 fn raised_at(alloc: Global, number: Option<u32>, id: &[u8]) -> Result<Fate, NoMemory>
-    ensures { IfOk result (λ f. f ≡ raised_at id.now number) }
+    ensures value { IfOk result (λ f. f ≡ raised_at id.now number) }
+    ensures memory { OnErr result (number ≡ None) }
 {
     match number {
         Some(number) => Ok(Fate::Arm(number)),
@@ -41,8 +42,10 @@ impl Engine {
     /// How a call of an operation fared, by the status of its reply. It copies the id of an exception
     /// that the operation does not raise.
     pub(crate) fn fate(&self, alloc: Global, op: u32, status: Status<'_>) -> Result<Fate, NoMemory>
-        ensures { IfOk result (λ f.
+        ensures value { IfOk result (λ f.
             f ≡ fate_of (ids_over self.now.binding.back self.now.binding op) status.entry) }
+        ensures memory { OnErr result
+            (copies_id (ids_over self.now.binding.back self.now.binding op) status.entry ≡ true) }
     {
         let refusal = match status {
             Status::Answer => return Ok(Fate::Arm(0)),

@@ -1,6 +1,6 @@
 //! Messages that are not calls, and calls that want no reply.
 
-ghost use Rattle.std.specs.Prelude.{◌≡◌, [], Ok, map, IfOk};
+ghost use Rattle.std.specs.Prelude.{◌≡◌, [], Ok, map, true, IfOk, OnErr};
 ghost use Rattle.std.specs.List.{list_any};
 ghost use Rattle.std.specs.Str.{bytes_eq};
 ghost use Rattle.aoi.specs.Plain.{PlainInterface, plain_interface};
@@ -59,6 +59,7 @@ fn answer_onc(fault: HeadErr, message: &[u8], buf: &mut SendBuf) -> Result<Serve
     requires { buf.old.done ≡ [] }
     ensures serves { IfOk result (λ s. reply_in s buf.new.done ≡ onc_answer message.now fault) }
     ensures silent { (result ≡ Ok Served.Silent) → buf.new.done ≡ [] }
+    ensures memory { OnErr result (refusals.is_version fault ≡ true) }
     ensures spent { NoneFell buf.old.spent buf.new.spent }
 {
     if !is_version(fault) {
@@ -113,6 +114,7 @@ fn answer_addressing(order: Order, head: &Head, buf: &mut SendBuf) -> Result<Ser
     requires { buf.old.done ≡ [] }
     ensures serves { IfOk result (λ s. reply_in s buf.new.done ≡ addressing_answer order head.now) }
     ensures silent { (result ≡ Ok Served.Silent) → buf.new.done ≡ [] }
+    ensures memory { OnErr result (head.now.wants ≡ true) }
     ensures spent { NoneFell buf.old.spent buf.new.spent }
 {
     if !head.wants {

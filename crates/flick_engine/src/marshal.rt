@@ -10,10 +10,9 @@ ghost use Rattle.flick_engine.specs.Costs.{IsSentByCode};
 ghost use Rattle.flick_engine.specs.Messages.{request_type, message};
 
 use crate::engine::Engine;
-use crate::errors::MarshalErr;
+use crate::errors::{MarshalErr, refusal_of};
 use mint::value::Value;
 use raw_buf::SendBuf;
-use stub_machine::SendErr;
 use wire_def::Head;
 
 impl Engine {
@@ -49,8 +48,7 @@ impl Engine {
     {
         match self.stubs().send(op, head, value, buf) {
             Ok(()) => Ok(()),
-            Err(SendErr::Long) => Err(MarshalErr::Long),
-            Err(SendErr::NoMemory) => Err(MarshalErr::NoMemory),
+            Err(why) => Err(refusal_of(why)),
         }
     }
 }

@@ -13,10 +13,9 @@ ghost use Rattle.flick_engine.specs.Received.{IsShort};
 ghost use Rattle.flick_engine.specs.Replies.{HasArm, arm_type, reply_type, reply_message};
 
 use crate::engine::Engine;
-use crate::errors::MarshalErr;
+use crate::errors::{MarshalErr, refusal_of};
 use mint::value::Value;
 use raw_buf::SendBuf;
-use stub_machine::SendErr;
 use wire_def::Head;
 
 impl Engine {
@@ -86,8 +85,7 @@ impl Engine {
         let (arm, inner) = self.reply_arm(op, value);
         match self.stubs().reply(op, arm, minor, head, inner, buf) {
             Ok(()) => Ok(()),
-            Err(SendErr::Long) => Err(MarshalErr::Long),
-            Err(SendErr::NoMemory) => Err(MarshalErr::NoMemory),
+            Err(why) => Err(refusal_of(why)),
         }
     }
 

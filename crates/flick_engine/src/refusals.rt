@@ -1,9 +1,10 @@
 //! Calls that are refused.
 
-ghost use Rattle.std.specs.Prelude.{◌≡◌, [], Err, Some, map, IfOk, OnOk};
+ghost use Rattle.std.specs.Prelude.{◌≡◌, [], Err, Some, map, IfOk, OnErr, OnOk};
 ghost use Rattle.aoi.specs.Plain.{plain_interface};
 ghost use Rattle.raw_buf.specs.Buf.{NoneFell};
 ghost use Rattle.back_cdr.specs.Targets as targets;
+ghost use Rattle.back_cdr.specs.Targets.{IsCdr};
 ghost use Rattle.wire_def.specs.declared.outcome.Refusal.TheVariants.{SystemException};
 ghost use Rattle.flick_engine.specs.Backs.{Begins};
 ghost use Rattle.flick_engine.specs.Received.{Answers, ReadCall};
@@ -119,6 +120,7 @@ impl Engine {
         ensures value { IfOk result (λ why.
             NoInterfaceOver self.now.binding.back self.now.binding message.now why) }
         ensures own { IfOk result (λ why. IsOwnOver self.now.binding.back why) }
+        ensures memory { OnErr result (IsCdr self.now.binding.back) }
     {
         match self.bound().back() {
             Back::Xdr => {
@@ -140,6 +142,7 @@ impl Engine {
     fn no_operation(&self, alloc: Global) -> Result<Refusal, NoMemory>
         ensures value { IfOk result (λ why. why ≡ refusals.no_operation self.now.binding.back) }
         ensures own { IfOk result (λ why. IsOwnOver self.now.binding.back why) }
+        ensures memory { OnErr result (IsCdr self.now.binding.back) }
     {
         match self.bound().back() {
             Back::Xdr => Ok(Refusal::ProcUnavail),
@@ -155,6 +158,7 @@ impl Engine {
     fn bad_body(&self, alloc: Global) -> Result<Refusal, NoMemory>
         ensures value { IfOk result (λ why. why ≡ refusals.bad_body self.now.binding.back) }
         ensures own { IfOk result (λ why. IsOwnOver self.now.binding.back why) }
+        ensures memory { OnErr result (IsCdr self.now.binding.back) }
     {
         match self.bound().back() {
             Back::Xdr => Ok(Refusal::GarbageArgs),
@@ -167,6 +171,7 @@ impl Engine {
     pub(crate) fn long_reply(&self, alloc: Global) -> Result<Refusal, NoMemory>
         ensures value { IfOk result (λ why. why ≡ refusals.long_reply self.now.binding.back) }
         ensures own { IfOk result (λ why. IsOwnOver self.now.binding.back why) }
+        ensures memory { OnErr result (IsCdr self.now.binding.back) }
     {
         match self.bound().back() {
             Back::Xdr => Ok(Refusal::SystemErr),

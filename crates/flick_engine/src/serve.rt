@@ -1,6 +1,7 @@
 //! Messages that are answered.
 
-ghost use Rattle.std.specs.Prelude.{◌≡◌, ◌<◌, [], Ok, Some, length, IfOk, OnErr, OnOk};
+ghost use Rattle.std.specs.Prelude.{◌≡◌, ◌<◌, [], Ok, Some, false, length, IfOk, OnErr, OnOk};
+ghost use Rattle.kit_base.specs.Limits.{longest_message};
 ghost use Rattle.mint.specs.Typed.{IsWellTyped};
 ghost use Rattle.mint.specs.Values.{seen};
 ghost use Rattle.head_kit.specs.Calls.{IsBelow};
@@ -53,6 +54,7 @@ impl Engine {
             Serves self.now.binding self.now.minor (S.Answers skeleton.now) view.old.octets
             (reply_in s buf.new.done)) }
         ensures silent { (result ≡ Ok Served.Silent) → buf.new.done ≡ [] }
+        ensures long { longest_message < length view.old.octets → result ≡ Ok Served.Silent }
         ensures err { OnErr result (buf.new.done ≡ []) }
         // What it costs.
         ensures cost { IfOk result (λ s. ServesByCode self.now (S.Answers skeleton.now)
@@ -91,6 +93,7 @@ impl Engine {
             Serves self.now.binding self.now.minor (S.Answers skeleton.now) message.now
             (reply_in s buf.new.done)) }
         ensures silent { (result ≡ Ok Served.Silent) → buf.new.done ≡ [] }
+        ensures long { longest_message < length message.now → result ≡ Ok Served.Silent }
         ensures cost { IfOk result (λ s. ServesByCode self.now (S.Answers skeleton.now)
             message.now (reply_in s buf.new.done) buf.old.spent buf.new) }
         ensures spent { NoneFell buf.old.spent buf.new.spent }
@@ -131,6 +134,7 @@ impl Engine {
             ServesCall self.now.binding (S.Answers skeleton.now) message.now called.now
             (reply_in s buf.new.done)) }
         ensures silent { (result ≡ Ok Served.Silent) → buf.new.done ≡ [] }
+        ensures passed { serving.is_answered self.now.binding called.now ≡ false → result ≡ Ok Served.Silent }
         ensures cost { IfOk result (λ s. ServesByCode self.now (S.Answers skeleton.now)
             message.now (reply_in s buf.new.done) buf.old.spent buf.new) }
         ensures spent { NoneFell buf.old.spent buf.new.spent }

@@ -1,4 +1,5 @@
-use Rattle.std.proofs.Common.{◌≡◌, ◌∙◌, ℕ, List, drop, ap, subst}
+use Rattle.std.proofs.Common.{◌≡◌, ◌∙◌, ◌<◌, ℕ, List, drop, length, ap, subst, sym}
+use Rattle.kit_base.specs.Limits.{longest_message}
 use Rattle.raw_buf.specs.declared.tally.Tally.{Tally}
 use Rattle.raw_buf.specs.Buf.{Buf}
 use Rattle.flick_engine.specs.Serving.{Serves, ServesByCode, reply_in}
@@ -25,3 +26,9 @@ returns-in-Ok-clause-cost g c =
     whole
     (subst (λ (t : Tally). ServesByCode c.args.self.now work c.rest.result.now (reply_in c.in-Ok.served r.new.buf.done) t r.new.buf) kept
     c.in-Ok.ensures.cost)
+
+pub returns-in-Ok-clause-long : goal.returns-in-Ok-clause-long
+returns-in-Ok-clause-long g c long =
+    let whole : c.rest.result.now ≡ c.args.view.now.octets = c.rest.ensures.value
+    ∙ ap (λ (n : ℕ). drop n c.args.view.now.octets) c.requires.start in
+    sym c.in-Ok.is ∙ c.serve_message.ensures.long (subst (λ (o : List ℕ). longest_message < length o) (sym whole) long)

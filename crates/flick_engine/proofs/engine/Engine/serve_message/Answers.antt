@@ -1,3 +1,4 @@
+use Rattle.std.proofs.Common.{arith}
 use Rattle.flick_engine.proofs.ServingCosts.{stopped_at, stopped_view}
 use Rattle.flick_engine.proofs.engine.Engine.serve_message.Goals as goal
 
@@ -11,3 +12,9 @@ pub returns-in-Err-clause-code : goal.returns-in-Err-clause-code
 returns-in-Err-clause-code g c =
     stopped_view c.args.self.now c.args.message.now c.args.view.now c.args.view.now c.requires.message c.answer_fault.result c.in-Err.fault
     c.in-Err.ensures.stops
+
+pub returns-in-Ok-clause-long : goal.returns-in-Ok-clause-long
+returns-in-Ok-clause-long g c long = absurd (omega (arith, long, c.if-message-gt-LONGEST_MESSAGE.false))
+
+pub returns-in-Err-clause-long : goal.returns-in-Err-clause-long
+returns-in-Err-clause-long g c long = absurd (omega (arith, long, c.if-message-gt-LONGEST_MESSAGE.false))
