@@ -9,15 +9,15 @@ use Rattle.stub_print.specs.Words.{numeral, integer, path_word, order_word, line
 use Rattle.stub_print.specs.SendText.{puts_text, block_text, cases_text}
 use Rattle.stub_read.specs.declared.leads.Lead.{Lead}
 use Rattle.stub_read.specs.declared.leads.Lead.TheVariants as leads
-use Rattle.stub_read.specs.Reading.{word_at, both, mapped, before, repeat}
+use Rattle.stub_read.specs.Reading.{Reader, word_at, both, mapped, before, repeat}
 use Rattle.stub_read.specs.Words.{space, feed, number_at, integer_at, path_at, order_at}
 use Rattle.stub_read.specs.Leads.{rest_lead_at, lead_at}
 use Rattle.stub_read.specs.Operations.{layout_at, end_line, puts_at, ensure_row_of, chunk_of, row_wide_of, each_of, there_of, switch_of, call_of, patch_of, ensure_row_at, chunk_at, over_at, cases_at, last_at, switch_at, op_at, ops_at}
 use Rattle.stub_read.specs.Stubs.{IsWord, AreWords, IsSigned, PutsAreSmall, NestsWithin, CasesNestWithin, IsSmall, CasesAreSmall}
 use Rattle.stub_read.proofs.Loops.{ends_none, one_more}
 use Rattle.stub_read.proofs.Leaves.{number_spaced, number_ended, integer_ended, path_spaced, path_ended, order_ended}
-use Rattle.stub_read.proofs.PutsRead.{both_reads, mapped_reads, before_reads, spaced_on, ended_on, layout_reads, puts_read, line_long, puts_long}
-use Rattle.stub_read.proofs.Lines.{block_long, cases_long}
+use Rattle.stub_read.proofs.PutsRead.{both_reads, mapped_reads, before_reads, spaced_on, ended_on, layout_reads, puts_read, line_long}
+use Rattle.stub_read.proofs.Lines.{around_text, puts_before, block_long, cases_long}
 
 -- ---- the operations of a block
 
@@ -194,6 +194,39 @@ less l a h = let e : suc l - 1 ≡ l = omega arith in subst (λ m. NestsWithin m
 cases_less : (l : ℕ) (cs : Cases) → CasesNestWithin (suc l - 1) cs → CasesNestWithin l cs
 cases_less l cs h = let e : suc l - 1 ≡ l = omega arith in subst (λ m. CasesNestWithin m cs) e h
 
+-- what is read of a line, as an operation
+read_op : {A : Type 0} (l : ℕ) (make : A → SendOp) (r : Reader A) (x : A) (text us vs after : List ℕ) (lead : Lead) (os : List SendOp)
+    → lead_at text ≡ Some (lead, us) → op_at l (ops_at l) lead ≡ mapped make r → r us ≡ Some (x, vs) → length vs < length text
+    → ReadsAs l vs os after → ReadsAs l text (make x ∷ os) after
+read_op l make r x text us vs after lead os e is f =
+    one_op l text us vs after lead (make x) os e (ap (λ (g : Reader SendOp). g us) is ∙ mapped_reads make r us vs x f)
+
+-- an operation with a body over a path
+body_op : (l : ℕ) (make : List ℕ × List SendOp → SendOp) (p w body rest after : List ℕ) (lead : Lead) (inner os : List SendOp)
+    → lead_at (line w (path_word p ∷ []) body) ≡ Some (lead, ended_on (path_word p) body)
+    → op_at (suc l) (ops_at (suc l)) lead ≡ mapped make (over_at (ops_at (suc l))) → AreWords p → ReadsAs l body inner (ended rest)
+    → length (ended rest) ≤ length body → ReadsAs (suc l) rest os after
+    → ReadsAs (suc l) (line w (path_word p ∷ []) body) (make (p, inner) ∷ os) after
+body_op l make p w body rest after lead inner os e is h b long =
+    read_op (suc l) make (over_at (ops_at (suc l))) (p, inner) (line w (path_word p ∷ []) body) (ended_on (path_word p) body) rest after
+    lead os e is (over_reads l p body inner rest h b) (around_text w (path_word p ∷ []) body rest long)
+
+-- an operation of a number
+number_op : (l : ℕ) (make : ℕ → SendOp) (n : ℕ) (w t after : List ℕ) (lead : Lead) (os : List SendOp)
+    → lead_at (line w (numeral n ∷ []) t) ≡ Some (lead, ended_on (numeral n) t) → op_at l (ops_at l) lead ≡ mapped make (number_at feed)
+    → IsWord n → ReadsAs l t os after → ReadsAs l (line w (numeral n ∷ []) t) (make n ∷ os) after
+number_op l make n w t after lead os e is h =
+    read_op l make (number_at feed) n (line w (numeral n ∷ []) t) (ended_on (numeral n) t) t after lead os e is (number_ended n t h)
+    (line_long w (numeral n ∷ []) t)
+
+-- an operation of a path
+path_op : (l : ℕ) (make : List ℕ → SendOp) (p w t after : List ℕ) (lead : Lead) (os : List SendOp)
+    → lead_at (line w (path_word p ∷ []) t) ≡ Some (lead, ended_on (path_word p) t) → op_at l (ops_at l) lead ≡ mapped make (path_at feed)
+    → AreWords p → ReadsAs l t os after → ReadsAs l (line w (path_word p ∷ []) t) (make p ∷ os) after
+path_op l make p w t after lead os e is h =
+    read_op l make (path_at feed) p (line w (path_word p ∷ []) t) (ended_on (path_word p) t) t after lead os e is (path_ended p t h)
+    (line_long w (path_word p ∷ []) t)
+
 mutual
   unfolding rest_lead_at
 
@@ -201,11 +234,7 @@ mutual
       (ops_of b) t
   ops_read stop l t h s ends = none_read l t ends
   ops_read (ensure n b) l t h s ends =
-      one_op l (block_text (ensure n b) t)
-      (ended_on (numeral n) (block_text b t)) (block_text b t) t leads.Ensure (op.Ensure n) (ops_of b) refl
-      (mapped_reads op.Ensure (number_at feed)
-      (ended_on (numeral n) (block_text b t)) (block_text b t) n (number_ended n (block_text b t) s.0))
-      (line_long (codes "ensure") (numeral n ∷ []) (block_text b t)) (ops_read b l t h s.1 ends)
+      number_op l op.Ensure n (codes "ensure") (block_text b t) t leads.Ensure (ops_of b) refl refl s.0 (ops_read b l t h s.1 ends)
   ops_read (ensure_row p u e b) l t h s ends =
       one_op l (block_text (ensure_row p u e b) t)
       (spaced_on (path_word p) (spaced_on (numeral u) (ended_on (numeral e) (block_text b t)))) (block_text b t) t leads.EnsureRow
@@ -213,59 +242,30 @@ mutual
       (ensure_row_reads p u e (block_text b t) s.0 s.1 s.2)
       (line_long (codes "ensure_row") (path_word p ∷ numeral u ∷ numeral e ∷ []) (block_text b t)) (ops_read b l t h s.3 ends)
   ops_read (align a b) l t h s ends =
-      one_op l (block_text (align a b) t)
-      (ended_on (numeral a) (block_text b t)) (block_text b t) t leads.Align (op.Align a) (ops_of b) refl
-      (mapped_reads op.Align (number_at feed)
-      (ended_on (numeral a) (block_text b t)) (block_text b t) a (number_ended a (block_text b t) s.0))
-      (line_long (codes "align") (numeral a ∷ []) (block_text b t)) (ops_read b l t h s.1 ends)
+      number_op l op.Align a (codes "align") (block_text b t) t leads.Align (ops_of b) refl refl s.0 (ops_read b l t h s.1 ends)
   ops_read (chunk z ps b) zero t h s ends = absurd (omega (arith, h.0))
   ops_read (chunk z ps b) (suc l) t h s ends =
       one_op (suc l) (block_text (chunk z ps b) t)
       (ended_on (numeral z) (puts_text ps (ended (block_text b t)))) (block_text b t) t leads.Chunk (op.Chunk z ps) (ops_of b) refl
       (chunk_reads l z ps (block_text b t) s.0 s.1)
-      (omega (
-        arith,
-        line_long (codes "end") [] (block_text b t),
-        puts_long ps (ended (block_text b t)),
-        line_long (codes "chunk") (numeral z ∷ []) (puts_text ps (ended (block_text b t))),
-      )) (ops_read b (suc l) t h.1 s.2 ends)
+      (around_text (codes "chunk") (numeral z ∷ []) (puts_text ps (ended (block_text b t))) (block_text b t)
+      (puts_before ps (ended (block_text b t)))) (ops_read b (suc l) t h.1 s.2 ends)
   ops_read (row_copy p b) l t h s ends =
-      one_op l (block_text (row_copy p b) t)
-      (ended_on (path_word p) (block_text b t)) (block_text b t) t leads.RowCopy (op.RowCopy p) (ops_of b) refl
-      (mapped_reads op.RowCopy (path_at feed)
-      (ended_on (path_word p) (block_text b t)) (block_text b t) p (path_ended p (block_text b t) s.0))
-      (line_long (codes "row_copy") (path_word p ∷ []) (block_text b t)) (ops_read b l t h s.1 ends)
+      path_op l op.RowCopy p (codes "row_copy") (block_text b t) t leads.RowCopy (ops_of b) refl refl s.0 (ops_read b l t h s.1 ends)
   ops_read (row_swap p b) l t h s ends =
-      one_op l (block_text (row_swap p b) t)
-      (ended_on (path_word p) (block_text b t)) (block_text b t) t leads.RowSwap (op.RowSwap p) (ops_of b) refl
-      (mapped_reads op.RowSwap (path_at feed)
-      (ended_on (path_word p) (block_text b t)) (block_text b t) p (path_ended p (block_text b t) s.0))
-      (line_long (codes "row_swap") (path_word p ∷ []) (block_text b t)) (ops_read b l t h s.1 ends)
+      path_op l op.RowSwap p (codes "row_swap") (block_text b t) t leads.RowSwap (ops_of b) refl refl s.0 (ops_read b l t h s.1 ends)
   ops_read (row_wide p o b) l t h s ends =
-      one_op l (block_text (row_wide p o b) t)
-      (spaced_on (path_word p) (ended_on (order_word o) (block_text b t))) (block_text b t) t leads.RowWide (op.RowWide p o)
-      (ops_of b) refl
-      (mapped_reads row_wide_of (both (path_at space) order_at)
-      (spaced_on (path_word p) (ended_on (order_word o) (block_text b t))) (block_text b t) (p, o)
+      read_op l row_wide_of (both (path_at space) order_at) (p, o) (block_text (row_wide p o b) t)
+      (spaced_on (path_word p) (ended_on (order_word o) (block_text b t))) (block_text b t) t leads.RowWide (ops_of b) refl refl
       (both_reads (path_at space) order_at (spaced_on (path_word p) (ended_on (order_word o) (block_text b t))) (ended_on
       (order_word o) (block_text b t)) (block_text b t) p o
-      (path_spaced p (ended_on (order_word o) (block_text b t)) s.0) (order_ended o (block_text b t))))
+      (path_spaced p (ended_on (order_word o) (block_text b t)) s.0) (order_ended o (block_text b t)))
       (line_long (codes "row_wide") (path_word p ∷ order_word o ∷ []) (block_text b t)) (ops_read b l t h s.1 ends)
   ops_read (each p a b) zero t h s ends = absurd (omega (arith, h.0))
   ops_read (each p a b) (suc l) t h s ends =
-      one_op (suc l) (block_text (each p a b) t)
-      (ended_on (path_word p) (block_text a (ended (block_text b t)))) (block_text b t) t leads.Each (op.Each p (ops_of a))
-      (ops_of b) refl
-      (mapped_reads each_of (over_at (ops_at (suc l)))
-      (ended_on (path_word p) (block_text a (ended (block_text b t)))) (block_text b t) (p, ops_of a)
-      (over_reads l p (block_text a (ended (block_text b t))) (ops_of a) (block_text b t) s.0
-      (ops_read a l (ended (block_text b t)) (less l a h.1) s.1 refl)))
-      (omega (
-        arith,
-        line_long (codes "end") [] (block_text b t),
-        block_long a (ended (block_text b t)),
-        line_long (codes "each") (path_word p ∷ []) (block_text a (ended (block_text b t))),
-      )) (ops_read b (suc l) t h.2 s.2 ends)
+      body_op l each_of p (codes "each") (block_text a (ended (block_text b t))) (block_text b t) t leads.Each (ops_of a) (ops_of b)
+      refl refl s.0 (ops_read a l (ended (block_text b t)) (less l a h.1) s.1 refl) (block_long a (ended (block_text b t)))
+      (ops_read b (suc l) t h.2 s.2 ends)
   ops_read (switch p cs b) zero t h s ends = absurd (omega (arith, h.0))
   ops_read (switch p cs b) (suc l) t h s ends =
       one_op (suc l) (block_text (switch p cs b) t)
@@ -274,45 +274,27 @@ mutual
       (switch_reads l p (cases_text cs (ended (block_text b t))) (last_text cs (block_text b t)) (cases_of cs) (last_of cs)
       (block_text b t)
       s.0 (cases_read cs l (block_text b t) (cases_less l cs h.1) s.1) (last_read cs l (block_text b t) (cases_less l cs h.1) s.1))
-      (omega (
-        arith,
-        line_long (codes "end") [] (block_text b t),
-        cases_long cs (ended (block_text b t)),
-        line_long (codes "switch") (path_word p ∷ []) (cases_text cs (ended (block_text b t))),
-      )) (ops_read b (suc l) t h.2 s.2 ends)
+      (around_text (codes "switch") (path_word p ∷ []) (cases_text cs (ended (block_text b t))) (block_text b t)
+      (cases_long cs (ended (block_text b t)))) (ops_read b (suc l) t h.2 s.2 ends)
   ops_read (if_there p a b) zero t h s ends = absurd (omega (arith, h.0))
   ops_read (if_there p a b) (suc l) t h s ends =
-      one_op (suc l) (block_text (if_there p a b) t)
-      (ended_on (path_word p) (block_text a (ended (block_text b t)))) (block_text b t) t leads.There (op.Some p (ops_of a))
-      (ops_of b) refl
-      (mapped_reads there_of (over_at (ops_at (suc l)))
-      (ended_on (path_word p) (block_text a (ended (block_text b t)))) (block_text b t) (p, ops_of a)
-      (over_reads l p (block_text a (ended (block_text b t))) (ops_of a) (block_text b t) s.0
-      (ops_read a l (ended (block_text b t)) (less l a h.1) s.1 refl)))
-      (omega (
-        arith,
-        line_long (codes "end") [] (block_text b t),
-        block_long a (ended (block_text b t)),
-        line_long (codes "some") (path_word p ∷ []) (block_text a (ended (block_text b t))),
-      )) (ops_read b (suc l) t h.2 s.2 ends)
+      body_op l there_of p (codes "some") (block_text a (ended (block_text b t))) (block_text b t) t leads.There (ops_of a) (ops_of b)
+      refl refl s.0 (ops_read a l (ended (block_text b t)) (less l a h.1) s.1 refl) (block_long a (ended (block_text b t)))
+      (ops_read b (suc l) t h.2 s.2 ends)
   ops_read (call k p b) l t h s ends =
-      one_op l (block_text (call k p b) t)
-      (spaced_on (numeral k) (ended_on (path_word p) (block_text b t))) (block_text b t) t leads.Call (op.Call k p) (ops_of b) refl
-      (mapped_reads call_of (both (number_at space) (path_at feed))
-      (spaced_on (numeral k) (ended_on (path_word p) (block_text b t))) (block_text b t) (k, p)
+      read_op l call_of (both (number_at space) (path_at feed)) (k, p) (block_text (call k p b) t)
+      (spaced_on (numeral k) (ended_on (path_word p) (block_text b t))) (block_text b t) t leads.Call (ops_of b) refl refl
       (both_reads (number_at space) (path_at feed) (spaced_on (numeral k) (ended_on (path_word p) (block_text b t))) (ended_on
       (path_word p) (block_text b t)) (block_text b t) k p
-      (number_spaced k (ended_on (path_word p) (block_text b t)) s.0) (path_ended p (block_text b t) s.1)))
+      (number_spaced k (ended_on (path_word p) (block_text b t)) s.0) (path_ended p (block_text b t) s.1))
       (line_long (codes "call") (numeral k ∷ path_word p ∷ []) (block_text b t)) (ops_read b l t h s.2 ends)
   ops_read (patch a z o b) l t h s ends =
-      one_op l (block_text (patch a z o b) t)
+      read_op l patch_of (both (number_at space) layout_at) (a, (z, o)) (block_text (patch a z o b) t)
       (spaced_on (numeral a) (spaced_on (numeral z) (ended_on (order_word o) (block_text b t)))) (block_text b t) t leads.Patch
-      (op.Patch a z o) (ops_of b) refl
-      (mapped_reads patch_of (both (number_at space) layout_at)
-      (spaced_on (numeral a) (spaced_on (numeral z) (ended_on (order_word o) (block_text b t)))) (block_text b t) (a, (z, o))
+      (ops_of b) refl refl
       (both_reads (number_at space) layout_at (spaced_on (numeral a) (spaced_on (numeral z) (ended_on (order_word o)
       (block_text b t)))) (spaced_on (numeral z) (ended_on (order_word o) (block_text b t))) (block_text b t) a (z, o)
-      (number_spaced a (spaced_on (numeral z) (ended_on (order_word o) (block_text b t))) s.0) (layout_reads z o (block_text b t) s.1)))
+      (number_spaced a (spaced_on (numeral z) (ended_on (order_word o) (block_text b t))) s.0) (layout_reads z o (block_text b t) s.1))
       (line_long (codes "patch") (numeral a ∷ numeral z ∷ order_word o ∷ []) (block_text b t)) (ops_read b l t h s.2 ends)
 
   cases_read : (cs : Cases) (l : ℕ) (t : List ℕ) → CasesNestWithin l cs → CasesAreSmall cs
