@@ -173,7 +173,7 @@ fn put_operation(alloc: Global, out: &mut String, o: &Operation) -> Result<(), B
         out.push_str("=")?;
         out.push_str(shown(alloc, e.id.as_slice())?.as_str())?;
         out.push_str("{")?;
-        put_fields(alloc, out, e.members.as_slice())?;
+        put_fields(alloc, out, e.members.get().as_slice())?;
         out.push_str("}")?;
     }
     Ok(())
