@@ -14,6 +14,12 @@ UNKNOWN = "yes or cover"  # of a text whose runs are too many for the model
 MANY = 500_000  # runs of operations: a file whose texts take more may be out of memory
 
 
+def fits(line, answer):
+    """Whether a line is what the model answers; where the runs of a text are too many for it, either of both."""
+    name = answer.removeprefix(f"{UNKNOWN} ")
+    return line == answer if name == answer else line in (f"yes {name}", f"! cover {name}")
+
+
 def refusal_of(octets):
     """The line by which a file of stubs is refused, None where there is none, or nothing."""
     return "? stubs file" if octets is None else "? stubs size" if len(octets) > LONGEST else ""
