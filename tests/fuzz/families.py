@@ -5,7 +5,7 @@ from collections import namedtuple
 INTERFACES, OPERATIONS, LABELS = 64, 256, 4_096
 SIZES = (16_384, 65_536, 262_144, 1_048_576)
 # The greatest files over which a text is made: where each type or operation has a long name in it, the text of a longer file has gigabytes.
-ALL, SOME, SHORT, NONE = 1_048_576, 65_536, 8_192, 0
+ALL, SOME, SHORT, NONE = 1_048_576, 65_536, 7_680, 0
 
 # A family: its name, its front and back ends, the file of a size, and the greatest size of a file that is shown, and of one whose stubs are
 # written. A file of that size is made too.
