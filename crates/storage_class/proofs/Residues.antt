@@ -4,15 +4,8 @@ use Rattle.std.proofs.Math.Nat.{mod-lt}
 use Rattle.storage_class.specs.Classing.{from_each, length_at, length_after, run, greatest}
 
 pub eighth : (f : ℕ → ℕ) (r : ℕ) → r < 8 → get_or (from_each f) r 0 ≡ f r
-eighth f zero h = refl
-eighth f (suc zero) h = refl
-eighth f (suc (suc zero)) h = refl
-eighth f (suc (suc (suc zero))) h = refl
-eighth f (suc (suc (suc (suc zero)))) h = refl
-eighth f (suc (suc (suc (suc (suc zero))))) h = refl
-eighth f (suc (suc (suc (suc (suc (suc zero)))))) h = refl
-eighth f (suc (suc (suc (suc (suc (suc (suc zero))))))) h = refl
 eighth f (suc (suc (suc (suc (suc (suc (suc (suc r)))))))) h = absurd (omega arith)
+eighth f _ h = refl
 
 below_eight : (p : ℕ) → p % 8 < 8
 below_eight p = omega arith

@@ -1,5 +1,5 @@
 -- What is sent has a length that the span of its type allows, by induction on the type.
-use Rattle.std.proofs.Common.{◌≡◌, ◌⊎◌, inl, inr, ℕ, zero, suc, ◌+◌, ◌*◌, ◌%◌, ◌≤◌, ℤ, pos, List, [], ◌∷◌, ◌++◌, length, Bool, true, false, cond, refl, sym, ap, ◌∙◌, int_eq, arith, length-append, zero-add, add-zero, suc-mul}
+use Rattle.std.proofs.Common.{◌≡◌, ℕ, zero, suc, ◌+◌, ◌*◌, ◌%◌, ◌≤◌, ℤ, pos, List, [], ◌∷◌, ◌++◌, length, Bool, true, false, cond, refl, sym, ap, ◌∙◌, int_eq, arith, length-append, zero-add, add-zero, suc-mul}
 use Rattle.std.proofs.Math.Nat.{zero-mul, mul-le-mul_right}
 use Rattle.std.specs.Prelude.{MatchBool}
 use Rattle.std.specs.Int.{Width, w8, w16, w32, w64, byte_len}
@@ -97,19 +97,20 @@ element_own (row_of k c) = own_of CdrBig (number k)
 octet_gap : (p : ℕ) → 1 ≡ gap p 1 + 1
 octet_gap p = omega arith
 
-big_element : (a : Array) (p : ℕ) (n : ℤ)
-    → length (element_octets CdrBig a p n) ≡ gap p (byte_len (own_element a)) + byte_len (own_element a)
-unfolding element_octets
-big_element (text c) p n = octet_gap p
-big_element (row_of kind.Octet c) p n = octet_gap p
-big_element (row_of k c) p n = scalar_long CdrBig (number k) p n
+-- one of CDR's two encodings
+abbrev IsCdr : Encoding → Type 0
+IsCdr CdrBig = Unit {0}
+IsCdr CdrLittle = Unit {0}
+IsCdr _ = ⊥
 
-little_element : (a : Array) (p : ℕ) (n : ℤ)
-    → length (element_octets CdrLittle a p n) ≡ gap p (byte_len (own_element a)) + byte_len (own_element a)
+cdr_element : (e : Encoding) → IsCdr e → (a : Array) (p : ℕ) (n : ℤ)
+    → length (element_octets e a p n) ≡ gap p (byte_len (own_element a)) + byte_len (own_element a)
 unfolding element_octets
-little_element (text c) p n = octet_gap p
-little_element (row_of kind.Octet c) p n = octet_gap p
-little_element (row_of k c) p n = scalar_long CdrLittle (number k) p n
+cdr_element Xdr cdr a p n = absurd cdr
+cdr_element Mach cdr a p n = absurd cdr
+cdr_element e cdr (text c) p n = octet_gap p
+cdr_element e cdr (row_of kind.Octet c) p n = octet_gap p
+cdr_element e cdr (row_of k c) p n = scalar_long e (number k) p n
 
 -- the elements of an array from a position, and what comes after them
 abbrev body_length : Encoding → Array → ℕ → ℕ → ℕ
@@ -117,27 +118,15 @@ body_length Xdr a n p = elements_length Xdr a n
 body_length Mach a n p = elements_length Mach a n
 body_length e a n p = first_gap a p n + elements_length e a n
 
-big_lengths : (a : Array) → byte_len (own_element a) ≡ element_length CdrBig a
-big_lengths (text c) = refl
-big_lengths (row_of kind.Octet c) = refl
-big_lengths (row_of kind.I8 c) = refl
-big_lengths (row_of kind.U8 c) = refl
-big_lengths (row_of kind.Char c) = refl
-big_lengths (row_of kind.I16 c) = refl
-big_lengths (row_of kind.U16 c) = refl
-big_lengths (row_of kind.I32 c) = refl
-big_lengths (row_of kind.U32 c) = refl
-big_lengths (row_of kind.I64 c) = refl
-big_lengths (row_of kind.U64 c) = refl
-big_lengths (row_of kind.Bool c) = refl
-
-little_lengths : (a : Array) → element_length CdrLittle a ≡ element_length CdrBig a
-little_lengths (text c) = refl
-little_lengths (row_of k c) = refl
+cdr_lengths : (e : Encoding) → IsCdr e → (a : Array) → byte_len (own_element a) ≡ element_length e a
+cdr_lengths Xdr cdr a = absurd cdr
+cdr_lengths Mach cdr a = absurd cdr
+cdr_lengths e cdr (row_of kind.Octet c) = refl
+cdr_lengths e cdr _ = refl
 
 first_gaps : (a : Array) (p n : ℕ) → first (byte_len (own_element a)) p n ≡ first_gap a p n
 first_gaps a p zero = refl
-first_gaps a p (suc n) = ap (λ w. gap p w) (big_lengths a)
+first_gaps a p (suc n) = ap (λ w. gap p w) (cdr_lengths CdrBig tt a)
 
 xdr_element : (a : Array) (p : ℕ) (n : ℤ) → length (element_octets Xdr a p n) ≡ element_length Xdr a
 unfolding element_octets
@@ -158,16 +147,11 @@ body_long : (e : Encoding) → IsPlain e → (a : Array) (p : ℕ) (ns : List �
     → length (elements_octets (element_octets e a) p ns) + trailing e a (length ns) ≡ body_length e a (length ns) p
 body_long Xdr h a p ns =
     ap (λ z. z + trailing Xdr a (length ns)) (elements_long (element_length Xdr a) (element_octets Xdr a) (xdr_element a) p ns)
-body_long CdrBig h a p ns =
-    let long = elements_aligned (own_element a) (element_own a) (element_octets CdrBig a) (big_element a) p ns in
-    let same : length ns * byte_len (own_element a) ≡ length ns * element_length CdrBig a = ap (λ z. length ns * z) (big_lengths a) in
-    omega (arith, long, same, first_gaps a p (length ns))
-body_long CdrLittle h a p ns =
-    let long = elements_aligned (own_element a) (element_own a) (element_octets CdrLittle a) (little_element a) p ns in
-    let same : length ns * byte_len (own_element a) ≡ length ns * element_length CdrLittle a =
-    ap (λ z. length ns * z) (big_lengths a ∙ sym (little_lengths a)) in
-    omega (arith, long, same, first_gaps a p (length ns))
 body_long Mach h a p ns = absurd h
+body_long e h a p ns =
+    let long = elements_aligned (own_element a) (element_own a) (element_octets e a) (cdr_element e tt a) p ns in
+    let same : length ns * byte_len (own_element a) ≡ length ns * element_length e a = ap (λ z. length ns * z) (cdr_lengths e tt a) in
+    omega (arith, long, same, first_gaps a p (length ns))
 
 exact_length : (f : ℕ → ℕ) → ((p : ℕ) → f (p % 8) ≡ f p) → (p l : ℕ) → l ≡ f p → HasLength (exactly (from_each f)) p l
 exact_length f turns p l h = exactly_within (from_each f) p l (h ∙ sym (from_each_at f turns p))
@@ -177,7 +161,7 @@ exact_length f turns p l h = exactly_within (from_each f) p l (h ∙ sym (from_e
 row_gap : (k : Kind) (c : Count) (p n : ℕ) → first_gap (row_of k c) (p % 8) n ≡ first_gap (row_of k c) p n
 row_gap k c p zero = refl
 row_gap k c p (suc n) =
-    let same = big_lengths (row_of k c) in
+    let same = cdr_lengths CdrBig tt (row_of k c) in
     rw (← same) (gap_turns (own_element (row_of k c)) (element_own (row_of k c)) p)
 
 first_most : (a : Array) (q n : ℕ) → q % 4 ≡ 0 → first_gap a q n ≤ wide_gap a
@@ -205,80 +189,48 @@ count_few p = omega arith
 grown : (a : Array) (e : Encoding) (n m : ℕ) → IsPlain e → n ≤ m → n * element_length e a ≤ m * element_length e a
 grown a e n m h le = mul-le-mul_right (element_length e a) le
 
-text_fits : (e : Encoding) → (e ≡ CdrBig) ⊎ (e ≡ CdrLittle) → (c : Count) (p n l : ℕ) → Allows c n → l ≤ 8 + n
-    → HasLength (text_counted e c) p l
-text_fits e (inl is) (Exactly m) p n l ok few = rw is (at_most_within (array_most CdrBig (text (Exactly m)) m) p l (omega (arith, ok, few)))
-text_fits e (inl is) (AtMost m) p n l ok few = rw is (at_most_within (array_most CdrBig (text (AtMost m)) m) p l (omega (arith, ok.0, few)))
-text_fits e (inl is) Any p n l ok few = tt
-text_fits e (inr is) (Exactly m) p n l ok few =
-    rw is (at_most_within (array_most CdrLittle (text (Exactly m)) m) p l (omega (arith, ok, few)))
-text_fits e (inr is) (AtMost m) p n l ok few =
-    rw is (at_most_within (array_most CdrLittle (text (AtMost m)) m) p l (omega (arith, ok.0, few)))
-text_fits e (inr is) Any p n l ok few = tt
+text_fits : (e : Encoding) → IsCdr e → (c : Count) (p n l : ℕ) → Allows c n → l ≤ 8 + n → HasLength (text_counted e c) p l
+text_fits Xdr cdr c p n l ok few = absurd cdr
+text_fits Mach cdr c p n l ok few = absurd cdr
+text_fits e cdr (Exactly m) p n l ok few = at_most_within (array_most e (text (Exactly m)) m) p l (omega (arith, ok, few))
+text_fits e cdr (AtMost m) p n l ok few = at_most_within (array_most e (text (AtMost m)) m) p l (omega (arith, ok.0, few))
+text_fits e cdr Any p n l ok few = tt
 
-big_row : (k : Kind) (c : Count) (p : ℕ) (ns : List ℤ) → Allows c (length ns)
-    → HasLength (array_counted CdrBig (row_of k c) c) p (length (array_octets CdrBig (row_of k c) p ns))
+cdr_row : (e : Encoding) → IsCdr e → (k : Kind) (c : Count) (p : ℕ) (ns : List ℤ) → Allows c (length ns)
+    → HasLength (array_counted e (row_of k c) c) p (length (array_octets e (row_of k c) p ns))
 unfolding array_octets head_octets count_octets
-big_row k (Exactly m) p ns h =
-    let body = body_long CdrBig tt (row_of k (Exactly m)) p ns in
-    let turns = λ (q : ℕ). ap (λ z. z + elements_length CdrBig (row_of k (Exactly m)) m) (row_gap k (Exactly m) q m) in
-    let whole = body ∙ ap (λ z. body_length CdrBig (row_of k (Exactly m)) z p) h in
-    exact_length (array_length CdrBig (row_of k (Exactly m)) m) turns p _
+cdr_row Xdr cdr k c p ns h = absurd cdr
+cdr_row Mach cdr k c p ns h = absurd cdr
+cdr_row e cdr k (Exactly m) p ns h =
+    let body = body_long e tt (row_of k (Exactly m)) p ns in
+    let turns = λ (q : ℕ). ap (λ z. z + elements_length e (row_of k (Exactly m)) m) (row_gap k (Exactly m) q m) in
+    let whole = body ∙ ap (λ z. body_length e (row_of k (Exactly m)) z p) h in
+    exact_length (array_length e (row_of k (Exactly m)) m) turns p _
     (simp (length-append, length-replicate, add-zero) (omega (arith, whole)))
-big_row k (AtMost m) p ns h =
+cdr_row e cdr k (AtMost m) p ns h =
     let a = row_of k (AtMost m) in
-    let head = scalar_octets CdrBig counted p (pos (length ns)) in
-    let long : length head ≡ gap p 4 + 4 = scalar_long CdrBig counted p (pos (length ns)) in
-    let body = body_long CdrBig tt a (p + length head) ns in
+    let head = scalar_octets e counted p (pos (length ns)) in
+    let long : length head ≡ gap p 4 + 4 = scalar_long e counted p (pos (length ns)) in
+    let body = body_long e tt a (p + length head) ns in
     let front = first_most a (p + length head) (length ns) (rw long (after_count p)) in
-    let less = grown a CdrBig (length ns) m tt h.0 in
-    at_most_within (array_most CdrBig a m) p _
+    let less = grown a e (length ns) m tt h.0 in
+    at_most_within (array_most e a m) p _
     (simp (length-append, length-replicate) (omega (arith, long, body, front, less, count_few p)))
-big_row k Any p ns h = tt
+cdr_row e cdr k Any p ns h = tt
 
-big_text : (c : Count) (p : ℕ) (ns : List ℤ) → Allows c (length ns)
-    → HasLength (text_counted CdrBig c) p (length (array_octets CdrBig (text c) p ns))
+cdr_text : (e : Encoding) → IsCdr e → (c : Count) (p : ℕ) (ns : List ℤ) → Allows c (length ns)
+    → HasLength (text_counted e c) p (length (array_octets e (text c) p ns))
 unfolding array_octets head_octets
-big_text c p ns h =
-    let head = scalar_octets CdrBig counted p (pos (suc (length ns))) in
-    let long : length head ≡ gap p 4 + 4 = scalar_long CdrBig counted p (pos (suc (length ns))) in
-    let body = body_long CdrBig tt (text c) (p + length head) ns in
+cdr_text Xdr cdr c p ns h = absurd cdr
+cdr_text Mach cdr c p ns h = absurd cdr
+cdr_text e cdr c p ns h =
+    let head = scalar_octets e counted p (pos (suc (length ns))) in
+    let long : length head ≡ gap p 4 + 4 = scalar_long e counted p (pos (suc (length ns))) in
+    let body = body_long e tt (text c) (p + length head) ns in
     let front = first_most (text c) (p + length head) (length ns) (rw long (after_count p)) in
-    let all : length (array_octets CdrBig (text c) p ns) ≤ 8 + length ns =
+    let all : length (array_octets e (text c) p ns) ≤ 8 + length ns =
     simp (length-append, length-replicate) (omega (arith, long, body, front, count_few p)) in
-    text_fits CdrBig (inl refl) c p (length ns) _ h all
-
-little_row : (k : Kind) (c : Count) (p : ℕ) (ns : List ℤ) → Allows c (length ns)
-    → HasLength (array_counted CdrLittle (row_of k c) c) p (length (array_octets CdrLittle (row_of k c) p ns))
-unfolding array_octets head_octets count_octets
-little_row k (Exactly m) p ns h =
-    let body = body_long CdrLittle tt (row_of k (Exactly m)) p ns in
-    let turns = λ (q : ℕ). ap (λ z. z + elements_length CdrLittle (row_of k (Exactly m)) m) (row_gap k (Exactly m) q m) in
-    let whole = body ∙ ap (λ z. body_length CdrLittle (row_of k (Exactly m)) z p) h in
-    exact_length (array_length CdrLittle (row_of k (Exactly m)) m) turns p _
-    (simp (length-append, length-replicate, add-zero) (omega (arith, whole)))
-little_row k (AtMost m) p ns h =
-    let a = row_of k (AtMost m) in
-    let head = scalar_octets CdrLittle counted p (pos (length ns)) in
-    let long : length head ≡ gap p 4 + 4 = scalar_long CdrLittle counted p (pos (length ns)) in
-    let body = body_long CdrLittle tt a (p + length head) ns in
-    let front = first_most a (p + length head) (length ns) (rw long (after_count p)) in
-    let less = grown a CdrLittle (length ns) m tt h.0 in
-    at_most_within (array_most CdrLittle a m) p _
-    (simp (length-append, length-replicate) (omega (arith, long, body, front, less, count_few p)))
-little_row k Any p ns h = tt
-
-little_text : (c : Count) (p : ℕ) (ns : List ℤ) → Allows c (length ns)
-    → HasLength (text_counted CdrLittle c) p (length (array_octets CdrLittle (text c) p ns))
-unfolding array_octets head_octets
-little_text c p ns h =
-    let head = scalar_octets CdrLittle counted p (pos (suc (length ns))) in
-    let long : length head ≡ gap p 4 + 4 = scalar_long CdrLittle counted p (pos (suc (length ns))) in
-    let body = body_long CdrLittle tt (text c) (p + length head) ns in
-    let front = first_most (text c) (p + length head) (length ns) (rw long (after_count p)) in
-    let all : length (array_octets CdrLittle (text c) p ns) ≤ 8 + length ns =
-    simp (length-append, length-replicate) (omega (arith, long, body, front, count_few p)) in
-    text_fits CdrLittle (inr refl) c p (length ns) _ h all
+    text_fits e tt c p (length ns) _ h all
 
 -- ---- over XDR
 
@@ -323,18 +275,8 @@ described_counts a n = by (is_long (count_of a) (number (kind_of a))) where
   by false = refl
 
 mach_width : (a : Array) → element_length Mach a ≡ byte_len (width_of Mach (number (kind_of a)))
-mach_width (text c) = refl
 mach_width (row_of kind.Octet c) = refl
-mach_width (row_of kind.I8 c) = refl
-mach_width (row_of kind.U8 c) = refl
-mach_width (row_of kind.Char c) = refl
-mach_width (row_of kind.I16 c) = refl
-mach_width (row_of kind.U16 c) = refl
-mach_width (row_of kind.I32 c) = refl
-mach_width (row_of kind.U32 c) = refl
-mach_width (row_of kind.I64 c) = refl
-mach_width (row_of kind.U64 c) = refl
-mach_width (row_of kind.Bool c) = refl
+mach_width _ = refl
 
 filled_grows : (x y : ℕ) → x ≤ y → x + gap x 4 ≤ y + gap y 4
 filled_grows x y h = omega arith
@@ -367,11 +309,9 @@ mach_array a Any p ns is h = tt
 array_within : (e : Encoding) (a : Array) (p : ℕ) (ns : List ℤ) → Allows (count_of a) (length ns)
     → HasLength (span e (array_type a)) p (length (array_octets e a p ns))
 array_within Xdr a p ns ok = xdr_array a (count_of a) p ns refl ok
-array_within CdrBig (text c) p ns ok = big_text c p ns ok
-array_within CdrBig (row_of k c) p ns ok = big_row k c p ns ok
-array_within CdrLittle (text c) p ns ok = little_text c p ns ok
-array_within CdrLittle (row_of k c) p ns ok = little_row k c p ns ok
 array_within Mach a p ns ok = mach_array a (count_of a) p ns refl ok
+array_within e (text c) p ns ok = cdr_text e tt c p ns ok
+array_within e (row_of k c) p ns ok = cdr_row e tt k c p ns ok
 
 -- ---- lists
 
