@@ -60,17 +60,7 @@ steps-append c h (patch a s o r) b v = regrouped (Some (Patched a s o ∷ [])) (
 
 piece-append : (x : SendOp-F Piece) (a b : Block) → append (piece_level x a) b ≡ piece_level x (append a b)
 piece-append (SendOp-F.Ensure n) a b = refl
-piece-append (SendOp-F.EnsureRow path unit extra) a b = refl
-piece-append (SendOp-F.Align n) a b = refl
-piece-append (SendOp-F.Chunk size puts) a b = refl
-piece-append (SendOp-F.RowCopy path) a b = refl
-piece-append (SendOp-F.RowSwap path) a b = refl
-piece-append (SendOp-F.RowWide path order) a b = refl
-piece-append (SendOp-F.Each path code) a b = refl
-piece-append (SendOp-F.Switch path cases other) a b = refl
-piece-append (SendOp-F.Some path code) a b = refl
-piece-append (SendOp-F.Call k path) a b = refl
-piece-append (SendOp-F.Patch at sub order) a b = refl
+piece-append _ a b = refl
 
 -- an operation is a piece before others
 pub op-append : (o : SendOp) (a b : Block) → append (op_seen o a) b ≡ op_seen o (append a b)

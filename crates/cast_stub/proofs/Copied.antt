@@ -6,12 +6,7 @@ use Rattle.cast_stub.specs.Append.{put_rebased}
 
 same-put : (p : Put) → put_rebased [] p ≡ p
 same-put (put.Num off path width order) = refl
-same-put (put.Tag off path width order) = refl
-same-put (put.Flag off path width order) = refl
-same-put (put.Count off path factor summand width order) = refl
-same-put (put.Short off path name size factor) = refl
-same-put (put.Const off octets) = refl
-same-put (put.Head off field width order) = refl
+same-put _ = refl
 
 pub same-puts : (ps : List Put) → map (put_rebased []) ps ≡ ps
 same-puts [] = refl

@@ -44,13 +44,7 @@ each_same f g h (val v vs) = rw (h v, each_same f g h vs) refl
 
 present_same : (f g : Val → List ℕ) → ((w : Val) → f w ≡ g w) → (v : Val) → of_present f v ≡ of_present g v
 present_same f g h (present v) = h v
-present_same f g h void = refl
-present_same f g h (num n) = refl
-present_same f g h (row k ns) = refl
-present_same f g h (group vs) = refl
-present_same f g h (items vs) = refl
-present_same f g h (arm n v) = refl
-present_same f g h absent = refl
+present_same f g h _ = refl
 
 pub if_same : (q : Bool) (a b c d : List ℕ) → a ≡ b → c ≡ d → (if q then a else c) ≡ (if q then b else d)
 if_same true a b c d h k = h

@@ -44,12 +44,7 @@ put-rebase h q (put.Head off f w' o) v w e = refl
 
 offset-rebase : (q : List ℕ) (p : Put) → offset (put_rebased q p) ≡ offset p
 offset-rebase q (put.Num off p w' o) = refl
-offset-rebase q (put.Tag off p w' o) = refl
-offset-rebase q (put.Flag off p w' o) = refl
-offset-rebase q (put.Count off p m a w' o) = refl
-offset-rebase q (put.Short off p name size m) = refl
-offset-rebase q (put.Const off os) = refl
-offset-rebase q (put.Head off f w' o) = refl
+offset-rebase q _ = refl
 
 put_all-rebase : (h : Head) (q : List ℕ) (ps : List Put) (v w : Val) (cs : Cells) → at q v ≡ Some w
     → put_all h v (map (put_rebased q) ps) cs ≡ put_all h w ps cs

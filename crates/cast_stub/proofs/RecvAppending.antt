@@ -51,17 +51,7 @@ fill-append c (call k p r) b d s = regrouped (within p (c k) d s) (fill c (appen
 
 piece-append : (x : RecvOp-F Piece) (a b : Recv) → append (piece_level x a) b ≡ piece_level x (append a b)
 piece-append (RecvOp-F.Need n) a b = refl
-piece-append (RecvOp-F.NeedRow path unit extra) a b = refl
-piece-append (RecvOp-F.SkipAny n) a b = refl
-piece-append (RecvOp-F.SkipZero n) a b = refl
-piece-append (RecvOp-F.Take size gets) a b = refl
-piece-append (RecvOp-F.Desc path name size mul) a b = refl
-piece-append (RecvOp-F.Row path order) a b = refl
-piece-append (RecvOp-F.RowWide path order) a b = refl
-piece-append (RecvOp-F.Each path code) a b = refl
-piece-append (RecvOp-F.Switch path cases other) a b = refl
-piece-append (RecvOp-F.Some path code) a b = refl
-piece-append (RecvOp-F.Call k path) a b = refl
+piece-append _ a b = refl
 
 -- an operation is a piece before others
 pub op-append : (o : RecvOp) (a b : Recv) → append (op_seen o a) b ≡ op_seen o (append a b)

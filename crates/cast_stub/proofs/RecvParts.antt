@@ -1,7 +1,7 @@
 -- What is done to a part of a draft is done to the whole, with the part put back, by induction on the path to the part.
 use Rattle.std.proofs.Common.{◌≡◌, ℕ, zero, suc, List, [], ◌∷◌, Option, None, Some, option_map, refl, ap, ◌∙◌}
 use Rattle.cast_stub.specs.Parts.{on_some, IsThere}
-use Rattle.cast_stub.specs.Draft.{Draft, raw, digit, listed, lined, tagged, flagged, done, fields, Drafts, no_draft, draft}
+use Rattle.cast_stub.specs.Draft.{Draft, done, fields, Drafts, no_draft, draft}
 use Rattle.cast_stub.specs.Fill.{at_field, within, field_at, part}
 use Rattle.cast_stub.specs.PutPart.{put_part, put_field}
 use Rattle.cast_stub.specs.Runs.{Place, Run, gives, refuses, strays, Filler, then_run, map_run, if_some}
@@ -40,13 +40,7 @@ module _ (f : Filler) (x : Draft) (s : Place) where
         alone refuses = refl
         alone strays = refl
   is_all (n ∷ p) (fields ds) e = ap (map_run fields) (field_is p (is_all p) n ds e) ∙ mapped fields (λ y. put_field n p y ds) (f x s)
-  is_all (n ∷ p) (raw t) e = absurd cc
-  is_all (n ∷ p) (digit a) e = absurd cc
-  is_all (n ∷ p) (listed t m) e = absurd cc
-  is_all (n ∷ p) (lined a m) e = absurd cc
-  is_all (n ∷ p) (tagged m t) e = absurd cc
-  is_all (n ∷ p) (flagged t) e = absurd cc
-  is_all (n ∷ p) (done v) e = absurd cc
+  is_all (n ∷ p) _ e = absurd cc
 
 pub within_is : (f : Filler) (x : Draft) (s : Place) (p : List ℕ) (d : Draft) → part p d ≡ Some x → within p f d s
     ≡ then_run (f x s) (replaced p d)
@@ -67,13 +61,7 @@ no_field f s p h (suc n) (draft d ds) e = map_strays (draft d) (at_field n (with
 pub no_part : (f : Filler) (s : Place) (p : List ℕ) (d : Draft) → part p d ≡ None → within p f d s ≡ strays
 no_part f s [] d e = absurd cc
 no_part f s (n ∷ p) (fields ds) e = map_strays fields (at_field n (within p f) ds s) (no_field f s p (no_part f s p) n ds e)
-no_part f s (n ∷ p) (raw t) e = refl
-no_part f s (n ∷ p) (digit a) e = refl
-no_part f s (n ∷ p) (listed t m) e = refl
-no_part f s (n ∷ p) (lined a m) e = refl
-no_part f s (n ∷ p) (tagged m t) e = refl
-no_part f s (n ∷ p) (flagged t) e = refl
-no_part f s (n ∷ p) (done v) e = refl
+no_part f s (n ∷ p) _ e = refl
 
 -- ---- and it can be put back
 
@@ -90,10 +78,4 @@ put_field_there p y x h (suc n) (draft d ds) e = there_map (draft d) (put_field 
 pub put_is_there : (p : List ℕ) (y x d : Draft) → part p d ≡ Some x → IsThere (put_part p y d)
 put_is_there [] y x d e = tt
 put_is_there (n ∷ p) y x (fields ds) e = there_map fields (put_field n p y ds) (put_field_there p y x (put_is_there p y x) n ds e)
-put_is_there (n ∷ p) y x (raw t) e = absurd cc
-put_is_there (n ∷ p) y x (digit a) e = absurd cc
-put_is_there (n ∷ p) y x (listed t m) e = absurd cc
-put_is_there (n ∷ p) y x (lined a m) e = absurd cc
-put_is_there (n ∷ p) y x (tagged m t) e = absurd cc
-put_is_there (n ∷ p) y x (flagged t) e = absurd cc
-put_is_there (n ∷ p) y x (done v) e = absurd cc
+put_is_there (n ∷ p) y x _ e = absurd cc

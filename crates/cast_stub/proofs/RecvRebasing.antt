@@ -12,7 +12,7 @@ use Rattle.cast_stub.specs.Steps.{is_width}
 use Rattle.cast_stub.specs.Parts.{on_some, IsThere}
 use Rattle.cast_stub.specs.RecvBlock.{Recv, finish, need, need_row, skip_any, skip_zero, pass, desc, row_block, row_wide, each, switch, if_there, call}
 use Rattle.cast_stub.specs.RecvAppend.{get_rebased, rebase}
-use Rattle.cast_stub.specs.Draft.{Draft, raw, digit, listed, lined, tagged, flagged, done, fields, Drafts, no_draft, draft, length_in}
+use Rattle.cast_stub.specs.Draft.{Draft, done, fields, Drafts, no_draft, draft, length_in}
 use Rattle.cast_stub.specs.Fill.{at_field, within, field_at, in_draft, part, into, const_got, got, all_got, fill_each, fill_arm, fill_present, Callees, fill, fill_case}
 use Rattle.cast_stub.specs.Into.{needed, passed, skipped, all_zero, word_at, same_octets}
 use Rattle.cast_stub.specs.Runs.{Place, Run, gives, refuses, strays, Filler, then_run, map_run, if_some, if_passed}
@@ -32,13 +32,7 @@ pub within_within : (q p : List ℕ) (f : Filler) (d : Draft) (s : Place) → wi
 within_within [] p f d s = refl
 within_within (n ∷ q) p f (fields ds) s =
     ap (map_run fields) (at_field_same n (within (q ++ p) f) (within q (within p f)) ds s (λ (d : Draft). within_within q p f d s))
-within_within (n ∷ q) p f (raw t) s = refl
-within_within (n ∷ q) p f (digit a) s = refl
-within_within (n ∷ q) p f (listed t m) s = refl
-within_within (n ∷ q) p f (lined a m) s = refl
-within_within (n ∷ q) p f (tagged m t) s = refl
-within_within (n ∷ q) p f (flagged t) s = refl
-within_within (n ∷ q) p f (done v) s = refl
+within_within (n ∷ q) p f _ s = refl
 
 part-append : (q p : List ℕ) (d : Draft) → part (q ++ p) d ≡ on_some (part q d) (part p)
 part-append [] p d = refl
@@ -68,13 +62,7 @@ module _ (y : Draft) where
   put_there (n ∷ p) (fields ds) e h =
       let m = some_map fields (put_field n p y ds) e h in
       subst (λ (z : Draft). part (n ∷ p) z ≡ Some y) m.2 (field_put p (put_there p) n ds m.0 m.1)
-  put_there (n ∷ p) (raw t) e h = absurd cc
-  put_there (n ∷ p) (digit a) e h = absurd cc
-  put_there (n ∷ p) (listed t m) e h = absurd cc
-  put_there (n ∷ p) (lined a m) e h = absurd cc
-  put_there (n ∷ p) (tagged m t) e h = absurd cc
-  put_there (n ∷ p) (flagged t) e h = absurd cc
-  put_there (n ∷ p) (done v) e h = absurd cc
+  put_there (n ∷ p) _ e h = absurd cc
 
 module _ (y z : Draft) where
   field_again : (p : List ℕ) → ((d e : Draft) → put_part p y d ≡ Some e → put_part p z e ≡ put_part p z d) → (n : ℕ) (ds es : Drafts)
@@ -96,13 +84,7 @@ module _ (y z : Draft) where
       subst
       (λ (x : Draft).
       put_part (n ∷ p) z x ≡ put_part (n ∷ p) z (fields ds)) m.2 (ap (option_map fields) (field_again p (put_again p) n ds m.0 m.1))
-  put_again (n ∷ p) (raw t) e h = absurd cc
-  put_again (n ∷ p) (digit a) e h = absurd cc
-  put_again (n ∷ p) (listed t m) e h = absurd cc
-  put_again (n ∷ p) (lined a m) e h = absurd cc
-  put_again (n ∷ p) (tagged m t) e h = absurd cc
-  put_again (n ∷ p) (flagged t) e h = absurd cc
-  put_again (n ∷ p) (done v) e h = absurd cc
+  put_again (n ∷ p) _ e h = absurd cc
 
 module _ (x : Draft) where
   field_same : (p : List ℕ) → ((d : Draft) → part p d ≡ Some x → put_part p x d ≡ Some d) → (n : ℕ) (ds : Drafts)
@@ -114,13 +96,7 @@ module _ (x : Draft) where
   pub put_same : (p : List ℕ) (d : Draft) → part p d ≡ Some x → put_part p x d ≡ Some d
   put_same [] d e = sym e
   put_same (n ∷ p) (fields ds) e = ap (option_map fields) (field_same p (put_same p) n ds e)
-  put_same (n ∷ p) (raw t) e = absurd cc
-  put_same (n ∷ p) (digit a) e = absurd cc
-  put_same (n ∷ p) (listed t m) e = absurd cc
-  put_same (n ∷ p) (lined a m) e = absurd cc
-  put_same (n ∷ p) (tagged m t) e = absurd cc
-  put_same (n ∷ p) (flagged t) e = absurd cc
-  put_same (n ∷ p) (done v) e = absurd cc
+  put_same (n ∷ p) _ e = absurd cc
 
 -- ---- one operation, and those after it
 

@@ -1,7 +1,7 @@
 -- Code without row operations gives no row as a block, by induction on the code and the depth of calls.
 use Rattle.std.proofs.Common.{◌≡◌, ℕ, zero, suc, ℤ, List, [], ◌∷◌, ◌++◌, length, ◌+◌, ◌*◌, Option, Some, None, refl, Bool, true, false, if◌then◌else◌}
 use Rattle.std.specs.Ordering.{int_eq}
-use Rattle.mint.specs.Values.{Val, void, num, row, group, items, arm, absent, present, Vals, no_more, val, arm_in}
+use Rattle.mint.specs.Values.{Val, row, present, Vals, no_more, val, arm_in}
 use Rattle.wire_def.specs.declared.head.Head.{Head}
 use Rattle.cast_stub.specs.declared.send.SendCode.{SendCode}
 use Rattle.cast_stub.specs.Parts.{on_some, at, elements_in, length_in}
@@ -39,14 +39,8 @@ of_over f h no_more = tt
 of_over f h (val v vs) = both_of (f v) (over f vs) (h v) (of_over f h vs)
 
 of_present : (f : Val → Steps) → ((v : Val) → NoRow (f v)) → (v : Val) → NoRow (if_present f v)
-of_present f h void = tt
-of_present f h (num n) = tt
-of_present f h (row k ns) = tt
-of_present f h (group vs) = tt
-of_present f h (items vs) = tt
-of_present f h (arm n v) = tt
-of_present f h absent = tt
 of_present f h (present v) = h v
+of_present f h _ = tt
 
 of_if : (b : Bool) (x y : Steps) → NoRow x → NoRow y → NoRow (if b then x else y)
 of_if true x y h k = h

@@ -31,14 +31,10 @@ is_wide _ four = refl
 is_wide _ eight = refl
 
 pub width_wide : (k : Kind) → Wide (width k)
-width_wide kind.Octet = one
-width_wide kind.I8 = one
-width_wide kind.U8 = one
-width_wide kind.Char = one
 width_wide kind.I16 = two
 width_wide kind.U16 = two
 width_wide kind.I32 = four
 width_wide kind.U32 = four
 width_wide kind.I64 = eight
 width_wide kind.U64 = eight
-width_wide kind.Bool = one
+width_wide _ = one
