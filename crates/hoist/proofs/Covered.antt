@@ -7,7 +7,7 @@ use Rattle.mint.specs.Typed.{IsOf, IsOfArm}
 use Rattle.mint.specs.Values.{Val, Vals, arm_in}
 use Rattle.wire_def.specs.declared.head.Head.{Head}
 use Rattle.cast_stub.specs.Parts.{on_some, at, elements_in}
-use Rattle.cast_stub.specs.Block.{Block, stop, ensure, ensure_row, align, chunk, row_copy, row_swap, row_wide, each, switch, if_there, call, patch, Cases, no_default, default, case}
+use Rattle.cast_stub.specs.Block.{Block, stop, ensure, ensure_row, align, chunk, each, switch, if_there, patch, Cases, no_default, default, case}
 use Rattle.cast_stub.specs.Steps.{Patched, Steps, both, over, if_present, Calls, steps, case_steps, chunk_steps, align_steps}
 use Rattle.cast_stub.specs.PartTypes.{ty_at, element_at, present_at, arms_at, elements_type}
 use Rattle.hoist.specs.Bound.{most, times, bound, cases_bound, Within}
@@ -142,12 +142,6 @@ module _ (c : Calls) (h : Head) (ro : Roles) where
   mutual
     good : (b : Block) (t : Ty) (v : Val) → IsTaken ro t b → IsOf t v → Rooms (steps c h (hoisted ro t b).0 v) (want (hoisted ro t b).1 v)
     good stop t v taken typed = rooms_none 0
-    good (ensure n r) t v taken typed = absurd taken
-    good (ensure_row p u e r) t v taken typed = absurd taken
-    good (row_copy p r) t v taken typed = absurd taken
-    good (row_swap p r) t v taken typed = absurd taken
-    good (row_wide p o r) t v taken typed = absurd taken
-    good (call k p r) t v taken typed = absurd taken
     good (align a r) t v taken typed =
         settled_good c h (flat (a - 1)) (align_steps a) (hoisted ro t r) v (within-align a) (good r t v taken typed)
     good (chunk s ps r) t v taken typed =
@@ -194,6 +188,7 @@ module _ (c : Calls) (h : Head) (ro : Roles) where
         typed refl tk (λ (arms : Arms) (n : ℤ) (w : Val) tk' o. case_good cs arms n w tk' o))
         taken.0)
         (good r t v taken.1 typed)
+    good _ t v taken typed = absurd taken
 
     case_good : (cs : Cases) (arms : Arms) (n : ℤ) (w : Val) → CasesTaken ro arms cs → IsOfArm arms n w
         → Rooms (case_steps c h (cases_hoisted ro arms cs) n w) 0

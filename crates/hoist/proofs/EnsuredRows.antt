@@ -3,7 +3,7 @@ use Rattle.std.proofs.Common.{◌≡◌, ℕ, zero, suc, ◌-◌, List, Option, 
 use Rattle.mint.specs.Types.{Ty, Arms, no_other, others, arm_type}
 use Rattle.mint.specs.declared.kind.Count.{Count}
 use Rattle.cast_stub.specs.Parts.{on_some, IsThere}
-use Rattle.cast_stub.specs.Block.{Block, stop, ensure, ensure_row, align, chunk, row_copy, row_swap, row_wide, each, switch, if_there, call, patch, Cases, no_default, default, case}
+use Rattle.cast_stub.specs.Block.{Block, stop, ensure, align, chunk, each, switch, if_there, patch, Cases, no_default, default, case}
 use Rattle.cast_stub.specs.PartTypes.{element_at, present_at, arms_at}
 use Rattle.cast_stub.specs.Bare.{IfTyped}
 use Rattle.hoist.specs.Bound.{most, times, bound, cases_bound}
@@ -123,12 +123,7 @@ module _ (ro : Roles) where
           taken.0,
       other_good t (ro t p) (on_some (arms_at p t) (λ arms. cases_bound arms cs)) (hoisted ro t r) (good r t taken.1),
     )
-    good (ensure n r) t taken = absurd taken
-    good (ensure_row p u e r) t taken = absurd taken
-    good (row_copy p r) t taken = absurd taken
-    good (row_swap p r) t taken = absurd taken
-    good (row_wide p o r) t taken = absurd taken
-    good (call k p r) t taken = absurd taken
+    good _ t taken = absurd taken
 
     cases_good : (cs : Cases) (arms : Arms) → CasesTaken ro arms cs → CasesRowsEnsured ro arms (cases_hoisted ro arms cs)
     cases_good (default b) (others t) taken = closed_good t (hoisted ro t b) (good b t taken)

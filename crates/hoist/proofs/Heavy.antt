@@ -21,7 +21,7 @@ use Rattle.cast_stub.proofs.Appending.{append-stop, append-assoc}
 use Rattle.cast_stub.specs.Bare.{IsBare}
 use Rattle.hoist.specs.Bound.{most, times, bound, cases_bound}
 use Rattle.hoist.specs.Hoisted.{nothing, octets, row, Hoisted, closed, Plan, flat, apart, settled, Role, is_row, is_break, loop_plan, body_plan, each_plan, some_plan, switch_plan, kept, items_at, items_in_type, or_void, or_none, hoisted, cases_hoisted}
-use Rattle.hoist.specs.Regions.{Sizes, AreSizes, Part, row_part, break_part, lone, is_light, with_breaks, broken, parts, fields_parts, arm_parts, groups, on_way, roles}
+use Rattle.hoist.specs.Regions.{Sizes, AreSizes, Part, row_part, break_part, lone, is_light, light_or, with_breaks, broken, parts, fields_parts, arm_parts, groups, on_way, roles}
 use Rattle.wire_def.specs.Hollow.{is_hollow}
 use Rattle.hoist.proofs.Grouping.{load, loaded, apart_groups, total, broken_groups, load_lone, load_some, load_small}
 use Rattle.hoist.proofs.Weighing.{spent, checks-append, weigh, weigh_quiet, weigh_less, low, high, least, greatest, greatest_least, closed_fits, loop_greatest, apart_greatest}
@@ -206,6 +206,39 @@ module _ (z : Sizes) (sizes : AreSizes z) (c : Calls) (h : Head) where
       → load ((lone front ++ broken f vs) ++ ps) ≡ load (lone front ++ break_part ∷ (with_breaks f vs ++ ps))
   broken_load front f vs ps = ap load (append_assoc (lone front) (broken f vs) ps)
 
+  -- a value that may be there and is no small part: its body by itself, within the parts of what is there
+  maybe_apart : (t : Ty) (w : Val) (inside : List Part)
+      → parts z (maybe_type t) w
+      ≡ light_or (z.top (maybe_type t)) (lone (z.front (maybe_type t)) ++ break_part ∷ (inside ++ break_part ∷ []))
+      → (below : ℕ) (p : List ℕ) (b r : Block) (t0 : Ty) (v : Val) (ps : List Part) → ty_at p t0 ≡ Some (maybe_type t) → at p v ≡ Some w
+      → on_way z p t0 ≡ is_light (z.top (maybe_type t)) → (f : Follows no_subs (maybe_type t) below p b) → G v t0 r ≤ load ps
+      → is_light (z.top (maybe_type t)) ≡ false
+      → spent (if_present (steps c h (closed (hoisted (roles z) t f.1))) w) ≤ groups None inside
+      → G v t0 (append b r) ≤ load (parts z (maybe_type t) w ++ ps)
+  maybe_apart t w inside parted below p b r t0 v ps is there way f le e turn =
+      let same : append b r ≡ append f.0 (if_there p f.1 r) =
+      ap (λ (x : Block). append x r) f.2 ∙ append-assoc f.0 (if_there p f.1 stop) r in
+      let role : roles z t0 p ≡ is_break = heavy_role z p t0 (maybe_type t) (way ∙ e) is in
+      let front = z.front (maybe_type t) in
+      let l = loaded ps in
+      let plan : some_plan (roles z) t0 p f.1 ≡ apart =
+      ap (λ (x : Role). body_plan x (on_some (present_at p t0) (λ y. bound y f.1))) role in
+      let el : present_at p t0 ≡ Some t = ap (λ (x : Option Ty). on_some x present_type) is in
+      let turn' : spent (on_some (at p v) (if_present (steps c h (closed (hoisted (roles z) (or_void (present_at p t0)) f.1)))))
+      ≤ groups None inside =
+      subst
+      (λ (x : Option Ty). spent (on_some (at p v) (if_present (steps c h (closed (hoisted (roles z) (or_void x) f.1)))))
+      ≤ groups None inside) (sym el)
+      (subst (λ (x : Option Val). spent (on_some x (if_present (steps c h (closed (hoisted (roles z) t f.1))))) ≤ groups None inside)
+      (sym there) turn) in
+      let op = op_apart v t0 (λ (d : Block). on_some (at p v) (if_present (steps c h d))) (some_plan (roles z) t0 p f.1) f.1
+      (closed (hoisted (roles z) (or_void (present_at p t0)) f.1)) (groups None inside) (groups None ps) (hoisted (roles z) t0 r) plan
+      turn' (omega (arith, le, l)) in
+      let all = apart_fits v t0 f.0 (if_there p f.1 r) r front (f.3).0 (groups None inside) inside ps (f.3).1 (sizes.flag t) op refl in
+      subst (λ (x : Block). G v t0 x ≤ load (parts z (maybe_type t) w ++ ps)) (sym same)
+      (subst (λ (x : List Part). G v t0 (append f.0 (if_there p f.1 r)) ≤ load (x ++ ps))
+      (sym (parted ∙ heavy_or (z.top (maybe_type t)) (lone front ++ break_part ∷ (inside ++ break_part ∷ [])) e)) all)
+
   mutual
     pub heavy : (t : Ty) (w : Val) → IsSound t → IsOf t w → (below : ℕ) (p : List ℕ) (b r : Block) (t0 : Ty) (v : Val) (ps : List Part)
         → ty_at p t0 ≡ Some t → at p v ≡ Some w → on_way z p t0 ≡ is_light (z.top t) → Follows no_subs t below p b → G v t0 r ≤ load ps
@@ -326,60 +359,13 @@ module _ (z : Sizes) (sizes : AreSizes z) (c : Calls) (h : Head) where
     heavy (maybe_type t) absent sound typed below p b r t0 v ps is there way f le =
         either_way (is_light (z.top (maybe_type t))) (G v t0 (append b r) ≤ load (parts z (maybe_type t) absent ++ ps))
         (λ e. light_fits v t0 (maybe_type t) sound below p b r absent ps e is way f le)
-        (λ e.
-        let same : append b r ≡ append f.0 (if_there p f.1 r) =
-        ap (λ (x : Block). append x r) f.2 ∙ append-assoc f.0 (if_there p f.1 stop) r in
-        let role : roles z t0 p ≡ is_break = heavy_role z p t0 (maybe_type t) (way ∙ e) is in
-        let front = z.front (maybe_type t) in
-        let l = loaded ps in
-        let plan : some_plan (roles z) t0 p f.1 ≡ apart =
-        ap (λ (x : Role). body_plan x (on_some (present_at p t0) (λ y. bound y f.1))) role in
-        let turn : spent (if_present (steps c h (closed (hoisted (roles z) t f.1))) absent) ≤ groups None [] = omega arith in
-        let el : present_at p t0 ≡ Some t = ap (λ (x : Option Ty). on_some x present_type) is in
-        let turn' : spent (on_some (at p v) (if_present (steps c h (closed (hoisted (roles z) (or_void (present_at p t0)) f.1)))))
-        ≤ groups None [] =
-        subst
-        (λ (x : Option Ty). spent (on_some (at p v) (if_present (steps c h (closed (hoisted (roles z) (or_void x) f.1))))) ≤ groups None [])
-        (sym el)
-        (subst (λ (x : Option Val). spent (on_some x (if_present (steps c h (closed (hoisted (roles z) t f.1))))) ≤ groups None [])
-        (sym there) turn) in
-        let op = op_apart v t0 (λ (d : Block). on_some (at p v) (if_present (steps c h d))) (some_plan (roles z) t0 p f.1) f.1
-        (closed (hoisted (roles z) (or_void (present_at p t0)) f.1)) (groups None []) (groups None ps) (hoisted (roles z) t0 r) plan
-        turn' (omega (arith, le, l)) in
-        let all = apart_fits v t0 f.0 (if_there p f.1 r) r front (f.3).0 (groups None []) [] ps (f.3).1 (sizes.flag t) op refl in
-        subst (λ (x : Block). G v t0 x ≤ load (parts z (maybe_type t) absent ++ ps)) (sym same)
-        (subst (λ (x : List Part). G v t0 (append f.0 (if_there p f.1 r)) ≤ load (x ++ ps))
-        (sym (heavy_or (z.top (maybe_type t)) (lone front ++ break_part ∷ break_part ∷ []) e)) all))
+        (λ e. maybe_apart t absent [] refl below p b r t0 v ps is there way f le e (omega arith))
     heavy (maybe_type t) (present w) sound typed below p b r t0 v ps is there way f le =
         either_way (is_light (z.top (maybe_type t))) (G v t0 (append b r) ≤ load (parts z (maybe_type t) (present w) ++ ps))
         (λ e. light_fits v t0 (maybe_type t) sound below p b r (present w) ps e is way f le)
-        (λ e.
-        let same : append b r ≡ append f.0 (if_there p f.1 r) =
-        ap (λ (x : Block). append x r) f.2 ∙ append-assoc f.0 (if_there p f.1 stop) r in
-        let role : roles z t0 p ≡ is_break = heavy_role z p t0 (maybe_type t) (way ∙ e) is in
-        let front = z.front (maybe_type t) in
-        let l = loaded ps in
-        let plan : some_plan (roles z) t0 p f.1 ≡ apart =
-        ap (λ (x : Role). body_plan x (on_some (present_at p t0) (λ y. bound y f.1))) role in
-        let turn : spent (if_present (steps c h (closed (hoisted (roles z) t f.1))) (present w)) ≤ groups None (parts z t w) =
-        closes t f.1 w
-        (heavy t w sound.1 typed below [] f.1 stop t w [] refl refl refl (own (Follows no_subs t) below [] f.1 f.4) (omega arith)) in
-        let el : present_at p t0 ≡ Some t = ap (λ (x : Option Ty). on_some x present_type) is in
-        let turn' : spent (on_some (at p v) (if_present (steps c h (closed (hoisted (roles z) (or_void (present_at p t0)) f.1)))))
-        ≤ groups None (parts z t w) =
-        subst (λ (x : Option Ty). spent (on_some (at p v) (if_present (steps c h (closed (hoisted (roles z) (or_void x) f.1)))))
-        ≤ groups None (parts z t w)) (sym el)
-        (subst
-        (λ (x : Option Val). spent (on_some x (if_present (steps c h (closed (hoisted (roles z) t f.1))))) ≤ groups None (parts z t w))
-        (sym there) turn) in
-        let op = op_apart v t0 (λ (d : Block). on_some (at p v) (if_present (steps c h d))) (some_plan (roles z) t0 p f.1) f.1
-        (closed (hoisted (roles z) (or_void (present_at p t0)) f.1)) (groups None (parts z t w)) (groups None ps)
-        (hoisted (roles z) t0 r) plan turn' (omega (arith, le, l)) in
-        let all = apart_fits v t0 f.0 (if_there p f.1 r) r front (f.3).0 (groups None (parts z t w)) (parts z t w) ps (f.3).1 (sizes.flag t)
-        op refl in
-        subst (λ (x : Block). G v t0 x ≤ load (parts z (maybe_type t) (present w) ++ ps)) (sym same)
-        (subst (λ (x : List Part). G v t0 (append f.0 (if_there p f.1 r)) ≤ load (x ++ ps))
-        (sym (heavy_or (z.top (maybe_type t)) (lone front ++ break_part ∷ (parts z t w ++ break_part ∷ [])) e)) all))
+        (λ e. maybe_apart t (present w) (parts z t w) refl below p b r t0 v ps is there way f le e
+        (closes t f.1 w
+        (heavy t w sound.1 typed below [] f.1 stop t w [] refl refl refl (own (Follows no_subs t) below [] f.1 f.4) (omega arith))))
     heavy (maybe_type t) _ sound typed below p b r t0 v ps is there way f le = absurd typed
 
     fields_heavy : (ts : Tys) (vs : Vals) → AreSound ts → AreOf ts vs

@@ -3,7 +3,7 @@ use Rattle.wire_def.specs.declared.encoding.Encoding.{Encoding}
 use Rattle.std.proofs.Common.{◌≡◌, ℕ, zero, suc, ◌<◌, ℤ, List, [], ◌∷◌, length, get_or, Option, Some, None, ap, ◌∙◌, arith}
 use Rattle.mint.specs.Types.{Ty, at, arms_at, others_at, ArmsBelow}
 use Rattle.cast_stub.specs.declared.send.SendOp.{SendOp}
-use Rattle.cast_stub.specs.Block.{Block, stop, ensure, ensure_row, align, chunk, row_copy, row_swap, row_wide, each, switch, if_there, call, patch, case, code_seen, cases_seen}
+use Rattle.cast_stub.specs.Block.{Block, stop, align, chunk, each, switch, if_there, patch, case, code_seen, cases_seen}
 use Rattle.cast_stub.specs.Append.{append}
 use Rattle.hoist.specs.Hoisted.{closed, hoisted, cases_hoisted, IsTaken, CasesTaken}
 use Rattle.hoist.specs.Seen.{span_roles, AreHoisted, ArmsTaken}
@@ -49,15 +49,10 @@ module _ (enc : Encoding) (us : List Ty) where
 pub both-taken : (enc : Encoding) (t : Ty) (a b : Block) → IsTaken (span_roles enc) t (append a b)
     → IsTaken (span_roles enc) t a × IsTaken (span_roles enc) t b
 both-taken enc t stop b h = (tt, h)
-both-taken enc t (ensure n r) b h = absurd h
-both-taken enc t (ensure_row p u e r) b h = absurd h
-both-taken enc t (row_copy p r) b h = absurd h
-both-taken enc t (row_swap p r) b h = absurd h
-both-taken enc t (row_wide p o r) b h = absurd h
-both-taken enc t (call k p r) b h = absurd h
 both-taken enc t (align a r) b h = both-taken enc t r b h
 both-taken enc t (chunk s ps r) b h = both-taken enc t r b h
 both-taken enc t (patch a s o r) b h = both-taken enc t r b h
 both-taken enc t (each p c r) b h = let k = both-taken enc t r b h.2 in ((h.0, h.1, k.0), k.1)
 both-taken enc t (if_there p c r) b h = let k = both-taken enc t r b h.1 in ((h.0, k.0), k.1)
 both-taken enc t (switch p cs r) b h = let k = both-taken enc t r b h.1 in ((h.0, k.0), k.1)
+both-taken enc t _ b h = absurd h

@@ -5,7 +5,7 @@ use Rattle.mint.specs.Types.{Ty, Arms, no_other, others, arm_type}
 use Rattle.mint.specs.Values.{Val, Vals, no_more, val, items, row as row_value, absent, present, arm_in}
 use Rattle.wire_def.specs.declared.head.Head.{Head}
 use Rattle.cast_stub.specs.Parts.{on_some, at, elements_in, length_in}
-use Rattle.cast_stub.specs.Block.{Block, stop, ensure, ensure_row, align, chunk, row_copy, row_swap, row_wide, each, switch, if_there, call, patch, Cases, no_default, default, case}
+use Rattle.cast_stub.specs.Block.{Block, ensure, ensure_row, align, chunk, each, switch, if_there, patch, Cases, no_default, default, case}
 use Rattle.cast_stub.specs.Steps.{Step, Room, Pad, Stored, Widened, Copied, Patched, Steps, both, over, if_present, Calls, steps, case_steps, chunk_steps, align_steps}
 use Rattle.cast_stub.specs.Kept.{without_room, unensured, cases_unensured}
 use Rattle.hoist.specs.Hoisted.{Pending, nothing, octets, row, Hoisted, some_octets, closed, Plan, flat, small, loop, apart, enough, beside, settled, Roles, Role, is_small, is_row, is_break, loop_plan, body_plan, each_plan, some_plan, switch_plan, kept, items_at, or_void, or_none, hoisted, cases_hoisted}
@@ -197,13 +197,7 @@ module _ (c : Calls) (h : Head) (ro : Roles) where
         (same_on (on_some (at p v) arm_in) (λ a. case_steps c h cs' a.0 a.1) (λ a. case_steps c h cs a.0 a.1)
         (λ (a : ℤ × Val). cases_keep cs (or_none (arms_at p t)) a.0 a.1))
         (keeps r t v)
-    keeps stop t v = (refl, tt)
-    keeps (ensure n r) t v = (refl, tt)
-    keeps (ensure_row p u e r) t v = (refl, tt)
-    keeps (row_copy p r) t v = (refl, tt)
-    keeps (row_swap p r) t v = (refl, tt)
-    keeps (row_wide p o r) t v = (refl, tt)
-    keeps (call k p r) t v = (refl, tt)
+    keeps _ t v = (refl, tt)
 
     cases_keep : (cs : Cases) (arms : Arms) (n : ℤ) (w : Val)
         → bare (case_steps c h (cases_hoisted ro arms cs) n w) ≡ bare (case_steps c h cs n w)
@@ -268,13 +262,7 @@ module _ (ro : Roles) where
         ap (λ (d : Cases). switch p d (unensured (settled (switch_plan ro t p cs) (hoisted ro t r)).0)) (kept_code cases_unensured
         (switch_plan ro t p cs) cs (cases_hoisted ro (or_none (arms_at p t)) cs) (same_cases cs (or_none (arms_at p t))))
         ∙ ap (switch p (cases_unensured cs)) (settled_code (switch_plan ro t p cs) (hoisted ro t r) ∙ same_code r t)
-    same_code stop t = refl
-    same_code (ensure n r) t = refl
-    same_code (ensure_row p u e r) t = refl
-    same_code (row_copy p r) t = refl
-    same_code (row_swap p r) t = refl
-    same_code (row_wide p o r) t = refl
-    same_code (call k p r) t = refl
+    same_code _ t = refl
 
     same_cases : (cs : Cases) (arms : Arms) → cases_unensured (cases_hoisted ro arms cs) ≡ cases_unensured cs
     same_cases (default b) (others t) = ap default (closed_code (hoisted ro t b) ∙ same_code b t)

@@ -74,6 +74,23 @@ module _ (enc : Encoding) (t : Ty) where
   as_planned path path' plan plan' back mid ah then same is e =
       e ∙ ap (λ (q : List ℕ). settled (plan_seen q plan) (after back ah)) same ∙ ap (λ (x : Plan). settled x (after back ah)) is
 
+  -- an operation with bodies, which its plan keeps or hoists by themselves
+  front-bodies : {A : Type 0} (o o' : SendOp) (put : List ℕ → A → Block → Block) (path path' path'' : List ℕ) (given inner made' : A)
+      (plan : CodePlan) (plan' : Plan) (back mid new : List SendOp) (ah then : Ahead)
+      → ((r : Block)
+      → hoisted (span_roles enc) t (op_seen o r)
+      ≡ pair (put path (kept plan' given made') (settled plan' (hoisted (span_roles enc) t r)).0)
+      (settled plan' (hoisted (span_roles enc) t r)).1)
+      → op_seen o' ≡ put path'' inner → path' ≡ path → path'' ≡ path → plan_seen path plan ≡ plan'
+      → inner ≡ kept (plan_seen path plan) given made' → after mid then ≡ settled (plan_seen path' plan) (after back ah)
+      → new ≡ mid ++ o' ∷ []
+      → InFront enc t o (after back ah) (after new then)
+  front-bodies {A} o o' put path path' path'' given inner made' plan plan' back mid new ah then go seen same same' planned made e new' =
+      turned o o' (put path (kept plan' given made')) (settled plan') back mid new ah then go
+      (seen ∙ ap (λ (q : List ℕ). piece (put q inner)) same'
+      ∙ ap (λ (x : A). piece (put path x)) (made ∙ ap (λ (x : Plan). kept x given made') planned))
+      (as_planned path path' plan plan' back mid ah then same planned e) new'
+
   pub front-each : (o : SendOp) (path path' path'' : List ℕ) (body inner : List SendOp) (plan : CodePlan) (back mid new : List SendOp)
       (ah then : Ahead) → o ≡ op.Each path body → path' ≡ path → path'' ≡ path
       → plan_seen path plan ≡ each_plan (span_roles enc) t path (code_seen body)
@@ -81,14 +98,11 @@ module _ (enc : Encoding) (t : Ty) where
       (closed (hoisted (span_roles enc) (or_void (items_at path t)) (code_seen body)))
       → after mid then ≡ settled (plan_seen path' plan) (after back ah) → new ≡ mid ++ op.Each path'' inner ∷ []
       → InFront enc t o (after back ah) (after new then)
-  front-each o path path' path'' body inner plan back mid new ah then is same same' planned made e new' =
-      let b' : Block = closed (hoisted (span_roles enc) (or_void (items_at path t)) (code_seen body)) in
-      let plan' : Plan = each_plan (span_roles enc) t path (code_seen body) in
-      turned o (op.Each path'' inner) (each path (kept plan' (code_seen body) b')) (settled plan') back mid new ah then
-      (λ r. ap (λ (p : Piece). hoisted (span_roles enc) t (p r)) (ap op_seen is ∙ seen-Each path body))
-      (seen-Each path'' inner ∙ ap (λ (q : List ℕ). piece (each q (code_seen inner))) same'
-      ∙ ap (λ (b : Block). piece (each path b)) (made ∙ ap (λ (x : Plan). kept x (code_seen body) b') planned))
-      (as_planned path path' plan plan' back mid ah then same planned e) new'
+  front-each o path path' path'' body inner plan back mid new ah then is =
+      front-bodies o (op.Each path'' inner) each path path' path'' (code_seen body) (code_seen inner)
+      (closed (hoisted (span_roles enc) (or_void (items_at path t)) (code_seen body))) plan
+      (each_plan (span_roles enc) t path (code_seen body)) back mid new ah then
+      (λ r. ap (λ (p : Piece). hoisted (span_roles enc) t (p r)) (ap op_seen is ∙ seen-Each path body)) (seen-Each path'' inner)
 
   pub front-some : (o : SendOp) (path path' path'' : List ℕ) (body inner : List SendOp) (plan : CodePlan) (back mid new : List SendOp)
       (ah then : Ahead) → o ≡ op.Some path body → path' ≡ path → path'' ≡ path
@@ -97,14 +111,11 @@ module _ (enc : Encoding) (t : Ty) where
       (closed (hoisted (span_roles enc) (or_void (present_at path t)) (code_seen body)))
       → after mid then ≡ settled (plan_seen path' plan) (after back ah) → new ≡ mid ++ op.Some path'' inner ∷ []
       → InFront enc t o (after back ah) (after new then)
-  front-some o path path' path'' body inner plan back mid new ah then is same same' planned made e new' =
-      let b' : Block = closed (hoisted (span_roles enc) (or_void (present_at path t)) (code_seen body)) in
-      let plan' : Plan = some_plan (span_roles enc) t path (code_seen body) in
-      turned o (op.Some path'' inner) (if_there path (kept plan' (code_seen body) b')) (settled plan') back mid new ah then
-      (λ r. ap (λ (p : Piece). hoisted (span_roles enc) t (p r)) (ap op_seen is ∙ seen-Some path body))
-      (seen-Some path'' inner ∙ ap (λ (q : List ℕ). piece (if_there q (code_seen inner))) same'
-      ∙ ap (λ (b : Block). piece (if_there path b)) (made ∙ ap (λ (x : Plan). kept x (code_seen body) b') planned))
-      (as_planned path path' plan plan' back mid ah then same planned e) new'
+  front-some o path path' path'' body inner plan back mid new ah then is =
+      front-bodies o (op.Some path'' inner) if_there path path' path'' (code_seen body) (code_seen inner)
+      (closed (hoisted (span_roles enc) (or_void (present_at path t)) (code_seen body))) plan
+      (some_plan (span_roles enc) t path (code_seen body)) back mid new ah then
+      (λ r. ap (λ (p : Piece). hoisted (span_roles enc) t (p r)) (ap op_seen is ∙ seen-Some path body)) (seen-Some path'' inner)
 
   pub front-switch : (o : SendOp) (path path' path'' : List ℕ) (cases bodies : List (ℤ × List SendOp)) (last rest : Option (List SendOp))
       (plan : CodePlan) (back mid new : List SendOp) (ah then : Ahead) → o ≡ op.Switch path cases last → path' ≡ path → path'' ≡ path
@@ -114,14 +125,12 @@ module _ (enc : Encoding) (t : Ty) where
       (cases_hoisted (span_roles enc) (or_none (arms_at path t)) (cases_seen cases last))
       → after mid then ≡ settled (plan_seen path' plan) (after back ah) → new ≡ mid ++ op.Switch path'' bodies rest ∷ []
       → InFront enc t o (after back ah) (after new then)
-  front-switch o path path' path'' cases bodies last rest plan back mid new ah then is same same' planned made e new' =
-      let cs' : Cases = cases_hoisted (span_roles enc) (or_none (arms_at path t)) (cases_seen cases last) in
-      let plan' : Plan = switch_plan (span_roles enc) t path (cases_seen cases last) in
-      turned o (op.Switch path'' bodies rest) (switch path (kept plan' (cases_seen cases last) cs')) (settled plan') back mid new ah then
+  front-switch o path path' path'' cases bodies last rest plan back mid new ah then is =
+      front-bodies o (op.Switch path'' bodies rest) switch path path' path'' (cases_seen cases last) (cases_seen bodies rest)
+      (cases_hoisted (span_roles enc) (or_none (arms_at path t)) (cases_seen cases last)) plan
+      (switch_plan (span_roles enc) t path (cases_seen cases last)) back mid new ah then
       (λ r. ap (λ (p : Piece). hoisted (span_roles enc) t (p r)) (ap op_seen is ∙ seen-Switch path cases last))
-      (seen-Switch path'' bodies rest ∙ ap (λ (q : List ℕ). piece (switch q (cases_seen bodies rest))) same'
-      ∙ ap (λ (x : Cases). piece (switch path x)) (made ∙ ap (λ (x : Plan). kept x (cases_seen cases last) cs') planned))
-      (as_planned path path' plan plan' back mid ah then same planned e) new'
+      (seen-Switch path'' bodies rest)
 
   -- the bodies of a switch that is taken
   pub switch-taken : (o : SendOp) (path : List ℕ) (cases : List (ℤ × List SendOp)) (last : Option (List SendOp)) (plan : CodePlan)

@@ -9,7 +9,7 @@ use Rattle.wire_def.specs.declared.head.Head.{Head}
 use Rattle.cast_stub.specs.declared.put.Put.{Put}
 use Rattle.cast_stub.specs.Parts.{on_some, at, elements_in}
 use Rattle.cast_stub.specs.Puts.{filled}
-use Rattle.cast_stub.specs.Block.{Block, stop, ensure, ensure_row, align, chunk, row_copy, row_swap, row_wide, each, switch, if_there, call, patch, Cases, no_default, default, case}
+use Rattle.cast_stub.specs.Block.{Block, stop, align, chunk, each, switch, if_there, patch, Cases, no_default, default, case}
 use Rattle.cast_stub.specs.Append.{append}
 use Rattle.cast_stub.specs.Steps.{Pad, Stored, Patched, Steps, both, over, if_present, Calls, steps, case_steps, chunk_steps, align_steps, is_width}
 use Rattle.cast_stub.specs.Follows as follows
@@ -53,14 +53,8 @@ module _ (c : Calls) (h : Head) where
   mutual
     pub quiet : (b : Block) (v : Val) → IsBare b → spent (steps c h b v) ≡ 0
     quiet stop v bare = refl
-    quiet (ensure n r) v bare = absurd bare
-    quiet (ensure_row p u e r) v bare = absurd bare
-    quiet (call k p r) v bare = absurd bare
     quiet (align a r) v bare = quiet_both (align_steps a) (steps c h r v) (quiet_align a) (quiet r v bare)
     quiet (chunk s ps r) v bare = quiet_both (chunk_steps s ps h v) (steps c h r v) (quiet_chunk h v ps s) (quiet r v bare)
-    quiet (row_copy p r) v bare = absurd bare
-    quiet (row_swap p r) v bare = absurd bare
-    quiet (row_wide p o r) v bare = absurd bare
     quiet (each p b r) v bare =
         quiet_both (on_some (on_some (at p v) elements_in) (over (steps c h b))) (steps c h r v)
         (quiet_on (on_some (at p v) elements_in) (over (steps c h b))
@@ -74,6 +68,7 @@ module _ (c : Calls) (h : Head) where
         (quiet_on (at p v) (if_present (steps c h b)) (λ (w : Val). quiet_present (steps c h b) w (λ (u : Val). quiet b u bare.0)))
         (quiet r v bare.1)
     quiet (patch a s o r) v bare = quiet_both (Some (Patched a s o ∷ [])) (steps c h r v) refl (quiet r v bare)
+    quiet _ v bare = absurd bare
 
     pub case_quiet : (cs : Cases) (n : ℤ) (w : Val) → CasesBare cs → spent (case_steps c h cs n w) ≡ 0
     case_quiet no_default n w bare = refl
@@ -85,18 +80,13 @@ module _ (c : Calls) (h : Head) where
 
 pub bare-append : (a b : Block) → IsBare a → IsBare b → IsBare (append a b)
 bare-append stop b h k = k
-bare-append (ensure n r) b h k = absurd h
-bare-append (ensure_row p u e r) b h k = absurd h
 bare-append (align a r) b h k = bare-append r b h k
 bare-append (chunk s ps r) b h k = bare-append r b h k
-bare-append (row_copy p r) b h k = absurd h
-bare-append (row_swap p r) b h k = absurd h
-bare-append (row_wide p o r) b h k = absurd h
 bare-append (each p w r) b h k = (h.0, bare-append r b h.1 k)
 bare-append (switch p cs r) b h k = (h.0, bare-append r b h.1 k)
 bare-append (if_there p w r) b h k = (h.0, bare-append r b h.1 k)
-bare-append (call n p r) b h k = absurd h
 bare-append (patch a s o r) b h k = bare-append r b h k
+bare-append _ b h k = absurd h
 
 pub mapped : (f : ℕ → ℕ) (x : Option ℕ) (n : ℕ) → option_map f x ≡ Some n → (m : ℕ) × (x ≡ Some m) × (f m ≡ n)
 mapped f None n e = absurd cc

@@ -3,7 +3,7 @@ use Rattle.std.proofs.Common.{◌≡◌, ℕ, ◌+◌, List, [], Some, sym, subs
 use Rattle.mint.specs.Types.{Ty}
 use Rattle.cast_stub.specs.declared.send.SendOp.{SendOp}
 use Rattle.cast_stub.specs.declared.send.SendCode.{SendCode}
-use Rattle.cast_stub.specs.Block.{Block, stop, ensure, ensure_row, align, chunk, row_copy, row_swap, row_wide, each, switch, if_there, call, patch, Cases, no_default, default, case, code_seen}
+use Rattle.cast_stub.specs.Block.{Block, stop, ensure, ensure_row, align, chunk, each, switch, if_there, call, patch, Cases, no_default, default, case, code_seen}
 use Rattle.cast_stub.specs.Append.{append}
 use Rattle.cast_stub.specs.Subs.{sub_at}
 use Rattle.cast_stub.specs.Framed.{IsFramed, lead_length, IsTail}
@@ -16,19 +16,16 @@ use Rattle.cast_stub.proofs.Trees.{beside}
 -- ensures are no row operations
 mutual
   rowless : (b : Block) → (IsRowless b → IsRowless (unensured b)) × (IsRowless (unensured b) → IsRowless b)
-  rowless stop = (λ h. h, λ h. h)
   rowless (ensure n r) = rowless r
   rowless (ensure_row p u e r) = rowless r
   rowless (align a r) = rowless r
   rowless (chunk s ps r) = rowless r
-  rowless (row_copy p r) = (λ h. h, λ h. h)
-  rowless (row_swap p r) = (λ h. h, λ h. h)
-  rowless (row_wide p o r) = (λ h. h, λ h. h)
   rowless (each p b r) = beside (rowless b) (rowless r)
   rowless (switch p cs r) = beside (cases_rowless cs) (rowless r)
   rowless (if_there p b r) = beside (rowless b) (rowless r)
   rowless (call k p r) = rowless r
   rowless (patch a s o r) = rowless r
+  rowless _ = (λ h. h, λ h. h)
 
   cases_rowless : (cs : Cases) → (AreRowless cs → AreRowless (cases_unensured cs)) × (AreRowless (cases_unensured cs) → AreRowless cs)
   cases_rowless no_default = (λ h. h, λ h. h)

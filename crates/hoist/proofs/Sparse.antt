@@ -2,9 +2,9 @@
 use Rattle.std.proofs.Common.{◌≡◌, ℕ, ◌-◌, List, Option, None, Some, refl, sym, subst, Bool, true, false, nat_lt, if◌then◌else◌}
 use Rattle.std.specs.Ordering.{int_eq}
 use Rattle.mint.specs.declared.kind.Count.{Count}
-use Rattle.mint.specs.Types.{Ty, void_type, scalar_type, array_type, group_type, items_type, choice_type, maybe_type, Arms, no_other, others, arm_type}
+use Rattle.mint.specs.Types.{Ty, items_type, Arms, no_other, others, arm_type}
 use Rattle.cast_stub.specs.Parts.{on_some, IsThere}
-use Rattle.cast_stub.specs.Block.{Block, stop, ensure, ensure_row, align, chunk, row_copy, row_swap, row_wide, each, switch, if_there, call, patch, Cases, no_default, default, case}
+use Rattle.cast_stub.specs.Block.{Block, stop, align, chunk, each, switch, if_there, patch, Cases, no_default, default, case}
 use Rattle.cast_stub.specs.PartTypes.{ty_at, element_at, present_at, arms_at}
 use Rattle.cast_stub.specs.Bare.{IsBare, CasesBare, OfItems, IfTyped, RowsAreBare, CasesRowsAreBare}
 use Rattle.hoist.specs.Bound.{most, plus, times, greater, bound, cases_bound}
@@ -77,13 +77,7 @@ mutual
 
 of_items : (x : Option Ty) (P : Ty → Type 0) (Q : Type 0) → ((u : Ty) → P u) → Q → OfItems x P Q
 of_items (Some (items_type c t)) P Q f q = f t
-of_items (Some void_type) P Q f q = q
-of_items (Some (scalar_type s)) P Q f q = q
-of_items (Some (array_type a)) P Q f q = q
-of_items (Some (group_type ts)) P Q f q = q
-of_items (Some (choice_type s arms)) P Q f q = q
-of_items (Some (maybe_type t)) P Q f q = q
-of_items None P Q f q = q
+of_items _ P Q f q = q
 
 if_typed : {A : Type 0} (x : Option A) (P : A → Type 0) → ((a : A) → P a) → IfTyped x P
 if_typed None P f = tt
@@ -156,13 +150,7 @@ apart_items : (x : Option Ty) (T : Ty → Type 0) (P : Ty → Block → Type 0) 
     → InType (on_some x items_in_type) T → ((u : Ty) → T u → P u (f u))
     → OfItems x (λ u. P u (f (or_void (on_some x items_in_type)))) (Q (f (or_void (on_some x items_in_type))))
 apart_items (Some (items_type c t)) T P Q f taken go = go t taken
-apart_items (Some void_type) T P Q f taken go = absurd taken
-apart_items (Some (scalar_type s)) T P Q f taken go = absurd taken
-apart_items (Some (array_type a)) T P Q f taken go = absurd taken
-apart_items (Some (group_type ts)) T P Q f taken go = absurd taken
-apart_items (Some (choice_type s arms)) T P Q f taken go = absurd taken
-apart_items (Some (maybe_type t)) T P Q f taken go = absurd taken
-apart_items None T P Q f taken go = absurd taken
+apart_items _ T P Q f taken go = absurd taken
 
 pub apart_typed : {A B : Type 0} (x : Option A) (T : A → Type 0) (P : A → B → Type 0) (d : Option A → A) (f : A → B)
     → ((a : A) → d (Some a) ≡ a) → InType x T → ((a : A) → T a → P a (f a))
@@ -211,12 +199,7 @@ module _ (ro : Roles) where
           taken.0,
       settled_rows (switch_plan ro t p cs) (hoisted ro t r) t (rows r t taken.1),
     )
-    rows (ensure n r) t taken = absurd taken
-    rows (ensure_row p u e r) t taken = absurd taken
-    rows (row_copy p r) t taken = absurd taken
-    rows (row_swap p r) t taken = absurd taken
-    rows (row_wide p o r) t taken = absurd taken
-    rows (call k p r) t taken = absurd taken
+    rows _ t taken = absurd taken
 
     cases_rows : (cs : Cases) (arms : Arms) → CasesTaken ro arms cs → CasesRowsAreBare arms (cases_hoisted ro arms cs)
     cases_rows (default b) (others t) taken = closed_rows (hoisted ro t b) t (rows b t taken)
