@@ -62,12 +62,10 @@ agrees-read K P Q strays (stop k at) g h m = absurd h
 pub agrees-given : {A B C : Type 0} (K : ℕ → Type 0) (P : A → B → Type 0) (Q : C → B → Type 0) (x : Run A) (r : Reading FaultKind B)
     (f : A → C) → Agrees K P x r → ((a : A) (b : B) → P a b → Q (f a) b)
     → Agrees K Q (map_run f x) r
-agrees-given K P Q (gives a s) (got b q rest) f h k = (k a b h.0, h.1, h.2, h.3, h.4)
-agrees-given K P Q refuses (stop k at) f h m = tt
-agrees-given K P Q (gives a s) (stop k at) f h m = absurd h
-agrees-given K P Q refuses (got b q rest) f h m = absurd h
-agrees-given K P Q strays (got b q rest) f h m = absurd h
-agrees-given K P Q strays (stop k at) f h m = absurd h
+agrees-given K P Q x r f h k = subst (Agrees K Q (map_run f x)) (same r) (agrees-map K P Q x r f (λ b. b) h k) where
+  same : {B : Type 0} (r : Reading FaultKind B) → map_got (λ b. b) r ≡ r
+  same (got b q rest) = refl
+  same (stop k at) = refl
 
 -- and nothing after
 pub agrees-finish : {B : Type 0} (K : ℕ → Type 0) (P : Draft → B → Type 0) (x : Run Draft) (r : Reading FaultKind B) (c : Callees)

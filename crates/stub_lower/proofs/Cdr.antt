@@ -1,5 +1,5 @@
 -- What the leaves of CDR append: numbers after their alignment, texts that end, rows.
-use Rattle.std.proofs.Common.{◌≡◌, ◌⊎◌, inl, inr, ℕ, zero, suc, ◌+◌, ◌*◌, ◌%◌, ◌<◌, ℤ, pos, negsuc, List, [], ◌∷◌, ◌++◌, length, map, replicate, Some, refl, sym, ap, subst, ◌∙◌, arith, append_assoc, length-append, IsTrue}
+use Rattle.std.proofs.Common.{◌≡◌, ℕ, zero, suc, ◌+◌, ◌*◌, ◌%◌, ◌<◌, ℤ, pos, negsuc, List, [], ◌∷◌, ◌++◌, length, map, replicate, Some, refl, sym, ap, subst, ◌∙◌, arith, append_assoc, length-append, IsTrue}
 use Rattle.std.specs.Prelude.{nat_lt}
 use Rattle.std.specs.List.{list_all}
 use Rattle.std.specs.Int.{Width, byte_len}
@@ -16,7 +16,7 @@ use Rattle.mint.specs.Values.{Val, num, row, vals_of}
 use Rattle.wire_def.specs.declared.encoding.Encoding.{Encoding}
 use Rattle.wire_def.specs.declared.encoding.Encoding.TheVariants.{CdrBig, CdrLittle}
 use Rattle.wire_def.specs.declared.head.Head.{Head}
-use Rattle.wire_def.specs.Scalars.{gap, scalar_octets, number_octets, residue, width_of, alignment_of}
+use Rattle.wire_def.specs.Scalars.{gap, scalar_octets, number_octets, residue, own_width, width_of, alignment_of}
 use Rattle.wire_def.specs.Lone.{lone_octets}
 use Rattle.wire_def.specs.Arrays.{natural, counted, ended_octets, count_octets, head_octets, element_octets, elements_octets, array_octets}
 use Rattle.wire_def.proofs.Words.{IsOwn, is8, is16, is32, is64, own_of, wide}
@@ -24,14 +24,14 @@ use Rattle.wire_def.proofs.Short.{scalar_long}
 use Rattle.cast_stub.specs.declared.put.Put.{Put}
 use Rattle.cast_stub.specs.declared.put.Put.TheVariants as put
 use Rattle.cast_stub.specs.Puts.{put_octets, offset, word}
-use Rattle.cast_stub.specs.Block.{Block, stop, chunk, each}
+use Rattle.cast_stub.specs.Block.{Block, stop, align, chunk, each}
 use Rattle.cast_stub.specs.Append.{append}
 use Rattle.cast_stub.specs.Steps.{Steps, Calls, steps, over, chunk_steps, align_steps}
 use Rattle.cast_stub.proofs.Appending.{steps-append}
 use Rattle.wire_def.specs.Places.{IsPlace}
 use Rattle.stub_lower.specs.Items.{number_at}
-use Rattle.stub_lower.specs.Codes.{aligned, scalar_code, length_put, ended_code, number_put, number_chunk, count_code, row_code, end_code, array_code}
-use Rattle.cast_stub.specs.Layouts.{order_of, scalar_width}
+use Rattle.stub_lower.specs.Codes.{aligned, scalar_code, length_put, ended_code, number_put, number_chunk, gapped_turn, count_code, row_code, end_code}
+use Rattle.cast_stub.specs.Layouts.{order_of, scalar_width, element_width, is_free, is_gapped}
 use Rattle.stub_lower.proofs.Writing.{Writes, both-writes, none-writes, writes_same, writes_stop, put-writes}
 use Rattle.stub_lower.proofs.Encoded.{ScalarsSend, ArraysSend, count-sends, first_true, second_true, letters_are_octets, over-writes}
 use Rattle.stub_lower.proofs.Words.{width_same, scalar_word, word-octet}
@@ -72,6 +72,16 @@ still_none _ is8 p h = omega arith
 still_none _ is16 p h = omega (arith, h)
 still_none _ is32 p h = omega (arith, h)
 still_none _ is64 p h = omega (arith, h)
+
+-- behind a count, which is a word, numbers of at most 32 bits have no gap
+pub one_fits : (q : ℕ) → q % 4 ≡ 0 → gap q 1 ≡ 0
+one_fits q h = omega arith
+
+pub two_fit : (q : ℕ) → q % 4 ≡ 0 → gap q 2 ≡ 0
+two_fit q h = omega (arith, h)
+
+pub four_fit : (q : ℕ) → q % 4 ≡ 0 → gap q 4 ≡ 0
+four_fit q h = omega (arith, h)
 
 -- ---- an encoding whose numbers are aligned to their widths
 
@@ -214,7 +224,7 @@ module _ (e : Encoding) (aligns : (s : Scalar) → alignment_of e s ≡ byte_len
       (writes_stop (loop c h b ns) (p + length head) els after))
 
   -- a row of a fixed length
-  pub fixed-row : (c : Calls) (h : Head) (j k : Kind) (m : ℕ) (ns : List ℤ) (p : ℕ) → length ns ≡ m → IsTrue (list_all (in_range k) ns)
+  fixed-row : (c : Calls) (h : Head) (j k : Kind) (m : ℕ) (ns : List ℤ) (p : ℕ) → length ns ≡ m → IsTrue (list_all (in_range k) ns)
       → Writes
       (steps c h (append (row_code e (scalar_width e (number k)) (Exactly m)) (each [] (number_chunk e (scalar_width e (number k))) stop))
       (row j ns)) p ([] ++ (elements_octets (scalar_octets e (number k)) (p + 0) ns ++ []))
@@ -241,7 +251,7 @@ module _ (e : Encoding) (aligns : (s : Scalar) → alignment_of e s ≡ byte_len
       (row j (n ∷ ns))) p _ _ same whole
 
   -- a row after its count, whose numbers need no alignment there
-  pub free-row : (four : byte_len (width_of e counted) ≡ 4) (c : Calls) (h : Head) (b : Count) (j k : Kind) (ns : List ℤ) (p : ℕ)
+  free-row : (four : byte_len (width_of e counted) ≡ 4) (c : Calls) (h : Head) (b : Count) (j k : Kind) (ns : List ℤ) (p : ℕ)
       → Allows b (length ns) → ((q : ℕ) → q % 4 ≡ 0 → gap q (byte_len (width_of e (number k))) ≡ 0)
       → (count_octets e b p (length ns) ≡ scalar_octets e counted p (pos (length ns))) → IsPlace e p → IsTrue (list_all (in_range k) ns)
       → Writes (steps c h (append (count_code e b) (each [] (number_chunk e (scalar_width e (number k))) stop)) (row j ns)) p
@@ -263,7 +273,7 @@ module _ (e : Encoding) (aligns : (s : Scalar) → alignment_of e s ≡ byte_len
       after_word q = omega arith
 
   -- a row after its count, each number after its alignment
-  pub gapped-row : (c : Calls) (h : Head) (b : Count) (j k : Kind) (ns : List ℤ) (p : ℕ) → Allows b (length ns) → IsPlace e p
+  gapped-row : (c : Calls) (h : Head) (b : Count) (j k : Kind) (ns : List ℤ) (p : ℕ) → Allows b (length ns) → IsPlace e p
       → IsTrue (list_all (in_range k) ns)
       → Writes
       (steps c h (append (count_code e b) (each [] (aligned (scalar_width e (number k)) (number_chunk e (scalar_width e (number k)))) stop))
@@ -275,113 +285,89 @@ module _ (e : Encoding) (aligns : (s : Scalar) → alignment_of e s ≡ byte_len
       (elements_octets (scalar_octets e (number k)) (p + length head) ns)
       ((count-sends e scalars-send c h b (row j ns) (length ns) p refl ok place).1) (aligned-run c h k ns (p + length head) all)
 
--- an octet is its scalar
-octet_scalar : (e : Encoding) (p : ℕ) (n : ℤ) → (e ≡ CdrBig) ⊎ (e ≡ CdrLittle) → IsTrue (in_range kind.Octet n)
-    → scalar_octets e (number kind.Octet) p n ≡ natural n ∷ []
-unfolding scalar_octets
-octet_scalar e p (pos n) (inl is) h =
-    let none : gap p 1 ≡ 0 = omega arith in
-    let few = ltb-true n 256 h in
-    let same : n % 256 % 256 ≡ n = omega arith in
-    rw (is, none) (ap (λ (m : ℕ). m ∷ []) same)
-octet_scalar e p (pos n) (inr is) h =
-    let none : gap p 1 ≡ 0 = omega arith in
-    let few = ltb-true n 256 h in
-    let same : n % 256 % 256 ≡ n = omega arith in
-    rw (is, none) (ap (λ (m : ℕ). m ∷ []) same)
-octet_scalar e p (negsuc n) is h = absurd (omega (arith, ltb-true n 0 h))
+  -- a row behind its head, in the octets of its count and its numbers
+  abbrev Row : Calls → Head → Count → Block → (ℕ → ℤ → List ℕ) → Kind → List ℤ → ℕ → Type 0
+  Row c h b code one j ns p =
+      Writes (steps c h code (row j ns)) p
+      (count_octets e b p (length ns) ++ (elements_octets one (p + length (count_octets e b p (length ns))) ns ++ []))
 
-octets_same : (e : Encoding) → (e ≡ CdrBig) ⊎ (e ≡ CdrLittle) → (p : ℕ) (ns : List ℤ) → IsTrue (list_all (in_range kind.Octet) ns)
-    → elements_octets (scalar_octets e (number kind.Octet)) p ns ≡ elements_octets (λ q n. natural n ∷ []) p ns
-unfolding elements_octets
-octets_same e is p [] all = refl
-octets_same e is p (n ∷ ns) all =
-    let one = octet_scalar e p n is (first_true (in_range kind.Octet n) (list_all (in_range kind.Octet) ns) all) in
-    rw one
-    (ap (λ z. natural n ∷ z) (octets_same e is (p + 1) ns (second_true (in_range kind.Octet n) (list_all (in_range kind.Octet) ns) all)))
+  -- a row of octets
+  octet-row : (c : Calls) (h : Head) (b : Count) (j : Kind) (ns : List ℤ) (p : ℕ) → Allows b (length ns)
+      → IsTrue (list_all (in_range kind.Octet) ns)
+      → Row c h b (append (row_code e 1 b) (each [] (number_chunk e 1) stop)) octet_one j ns p
+  unfolding count_octets
+  octet-row c h b j ns p ok all =
+      looped c h (row_code e 1 b) (number_chunk e 1) j ns p (count_octets e b p (length ns))
+      (elements_octets octet_one (p + length (count_octets e b p (length ns))) ns) (head b ok)
+      (over-writes octet_one (steps c h (number_chunk e 1)) (in_range kind.Octet) ns (p + length (count_octets e b p (length ns))) all
+      (octet-writes c h))
+    where
+      head : (b : Count) → Allows b (length ns) → Writes (steps c h (row_code e 1 b) (row j ns)) p (count_octets e b p (length ns))
+      head (Exactly zero) ok = none-writes p
+      head (Exactly (suc m)) ok = none-writes p
+      head (AtMost m) ok = (count-sends e scalars-send c h (AtMost m) (row j ns) (length ns) p refl ok (any p)).1
+      head Any ok = (count-sends e scalars-send c h Any (row j ns) (length ns) p refl ok (any p)).1
 
-one_fits : (q : ℕ) → q % 4 ≡ 0 → gap q 1 ≡ 0
-one_fits q h = omega arith
+  module _ (own : (k : Kind) → width_of e (number k) ≡ own_width (number k)) where
+    -- a row of numbers of at most 32 bits
+    small-row : (k : Kind) → ((q : ℕ) → q % 4 ≡ 0 → gap q (byte_len (own_width (number k))) ≡ 0) → (c : Calls) (h : Head) (b : Count)
+        (j : Kind) (ns : List ℤ) (p : ℕ) → Allows b (length ns) → IsTrue (list_all (in_range k) ns)
+        → Row c h b (append (row_code e (scalar_width e (number k)) b) (each [] (number_chunk e (scalar_width e (number k))) stop))
+        (scalar_octets e (number k)) j ns p
+    unfolding count_octets
+    small-row k small c h b j ns p ok all = cases b ok where
+      free : (q : ℕ) → q % 4 ≡ 0 → gap q (byte_len (width_of e (number k))) ≡ 0
+      free = subst (λ (w : Width). (q : ℕ) → q % 4 ≡ 0 → gap q (byte_len w) ≡ 0) (sym (own k)) small
 
-two_fit : (q : ℕ) → q % 4 ≡ 0 → gap q 2 ≡ 0
-two_fit q h = omega (arith, h)
+      cases : (b : Count) → Allows b (length ns)
+          → Row c h b (append (row_code e (scalar_width e (number k)) b) (each [] (number_chunk e (scalar_width e (number k))) stop))
+          (scalar_octets e (number k)) j ns p
+      cases (Exactly m) ok = fixed-row c h j k m ns p ok all
+      cases (AtMost m) ok =
+          free-row (ap byte_len (own kind.U32)) c h (AtMost m) j k ns p ok free (lone counted p (pos (length ns))) (any p) all
+      cases Any ok = free-row (ap byte_len (own kind.U32)) c h Any j k ns p ok free (lone counted p (pos (length ns))) (any p) all
 
-four_fit : (q : ℕ) → q % 4 ≡ 0 → gap q 4 ≡ 0
-four_fit q h = omega (arith, h)
+    -- one of numbers of 64 bits
+    wide-row : (k : Kind) → byte_len (own_width (number k)) ≡ 8 → (c : Calls) (h : Head) (b : Count) (j : Kind) (ns : List ℤ) (p : ℕ)
+        → Allows b (length ns) → IsTrue (list_all (in_range k) ns)
+        → Row c h b (append (row_code e (scalar_width e (number k)) b) (each [] (gapped_turn e (scalar_width e (number k)) (is_free b)) stop))
+        (scalar_octets e (number k)) j ns p
+    unfolding count_octets
+    wide-row k wide c h b j ns p ok all = cases b ok where
+      by_eight : aligned (scalar_width e (number k)) (number_chunk e (scalar_width e (number k)))
+          ≡ align 8 (number_chunk e (scalar_width e (number k)))
+      by_eight = ap (λ (w : ℕ). aligned w (number_chunk e (scalar_width e (number k)))) (ap byte_len (own k) ∙ wide)
 
-big_row : (c : Calls) (h : Head) (b : Count) (m k : Kind) (ns : List ℤ) (p : ℕ) → Allows b (length ns) → IsTrue (list_all (in_range m) ns)
-    → Writes (steps c h (array_code CdrBig (row_of m b)) (row k ns)) p (array_octets CdrBig (row_of m b) p ns)
-unfolding array_octets head_octets element_octets count_octets
-big_row c h (Exactly x) kind.Octet k ns p ok all = rw (← octets_same CdrBig (inl refl) (p + 0) ns all)
-    (fixed-row CdrBig (λ s. refl) (λ n. tt) (λ s x. refl) (λ s p n. refl) refl c h k kind.Octet x ns p ok all)
-big_row c h (AtMost x) kind.Octet k ns p ok all =
-    let q : ℕ = p + length (scalar_octets CdrBig counted p (pos (length ns))) in
-    rw (← octets_same CdrBig (inl refl) q ns all)
-    (free-row CdrBig (λ s. refl) (λ n. tt) (λ s x. refl) (λ s p n. refl) refl refl c h (AtMost x) k kind.Octet ns p ok one_fits refl tt all)
-big_row c h Any kind.Octet k ns p ok all =
-    let q : ℕ = p + length (scalar_octets CdrBig counted p (pos (length ns))) in
-    rw (← octets_same CdrBig (inl refl) q ns all)
-    (free-row CdrBig (λ s. refl) (λ n. tt) (λ s x. refl) (λ s p n. refl) refl refl c h Any k kind.Octet ns p ok one_fits refl tt all)
-big_row c h (Exactly x) kind.I8 k ns p ok all =
-    fixed-row CdrBig (λ s. refl) (λ n. tt) (λ s x. refl) (λ s p n. refl) refl c h k kind.I8 x ns p ok all
-big_row c h (AtMost x) kind.I8 k ns p ok all =
-    free-row CdrBig (λ s. refl) (λ n. tt) (λ s x. refl) (λ s p n. refl) refl refl c h (AtMost x) k kind.I8 ns p ok one_fits refl tt all
-big_row c h Any kind.I8 k ns p ok all =
-    free-row CdrBig (λ s. refl) (λ n. tt) (λ s x. refl) (λ s p n. refl) refl refl c h Any k kind.I8 ns p ok one_fits refl tt all
-big_row c h (Exactly x) kind.U8 k ns p ok all =
-    fixed-row CdrBig (λ s. refl) (λ n. tt) (λ s x. refl) (λ s p n. refl) refl c h k kind.U8 x ns p ok all
-big_row c h (AtMost x) kind.U8 k ns p ok all =
-    free-row CdrBig (λ s. refl) (λ n. tt) (λ s x. refl) (λ s p n. refl) refl refl c h (AtMost x) k kind.U8 ns p ok one_fits refl tt all
-big_row c h Any kind.U8 k ns p ok all =
-    free-row CdrBig (λ s. refl) (λ n. tt) (λ s x. refl) (λ s p n. refl) refl refl c h Any k kind.U8 ns p ok one_fits refl tt all
-big_row c h (Exactly x) kind.Char k ns p ok all =
-    fixed-row CdrBig (λ s. refl) (λ n. tt) (λ s x. refl) (λ s p n. refl) refl c h k kind.Char x ns p ok all
-big_row c h (AtMost x) kind.Char k ns p ok all =
-    free-row CdrBig (λ s. refl) (λ n. tt) (λ s x. refl) (λ s p n. refl) refl refl c h (AtMost x) k kind.Char ns p ok one_fits refl tt all
-big_row c h Any kind.Char k ns p ok all =
-    free-row CdrBig (λ s. refl) (λ n. tt) (λ s x. refl) (λ s p n. refl) refl refl c h Any k kind.Char ns p ok one_fits refl tt all
-big_row c h (Exactly x) kind.Bool k ns p ok all =
-    fixed-row CdrBig (λ s. refl) (λ n. tt) (λ s x. refl) (λ s p n. refl) refl c h k kind.Bool x ns p ok all
-big_row c h (AtMost x) kind.Bool k ns p ok all =
-    free-row CdrBig (λ s. refl) (λ n. tt) (λ s x. refl) (λ s p n. refl) refl refl c h (AtMost x) k kind.Bool ns p ok one_fits refl tt all
-big_row c h Any kind.Bool k ns p ok all =
-    free-row CdrBig (λ s. refl) (λ n. tt) (λ s x. refl) (λ s p n. refl) refl refl c h Any k kind.Bool ns p ok one_fits refl tt all
-big_row c h (Exactly x) kind.I16 k ns p ok all =
-    fixed-row CdrBig (λ s. refl) (λ n. tt) (λ s x. refl) (λ s p n. refl) refl c h k kind.I16 x ns p ok all
-big_row c h (AtMost x) kind.I16 k ns p ok all =
-    free-row CdrBig (λ s. refl) (λ n. tt) (λ s x. refl) (λ s p n. refl) refl refl c h (AtMost x) k kind.I16 ns p ok two_fit refl tt all
-big_row c h Any kind.I16 k ns p ok all =
-    free-row CdrBig (λ s. refl) (λ n. tt) (λ s x. refl) (λ s p n. refl) refl refl c h Any k kind.I16 ns p ok two_fit refl tt all
-big_row c h (Exactly x) kind.U16 k ns p ok all =
-    fixed-row CdrBig (λ s. refl) (λ n. tt) (λ s x. refl) (λ s p n. refl) refl c h k kind.U16 x ns p ok all
-big_row c h (AtMost x) kind.U16 k ns p ok all =
-    free-row CdrBig (λ s. refl) (λ n. tt) (λ s x. refl) (λ s p n. refl) refl refl c h (AtMost x) k kind.U16 ns p ok two_fit refl tt all
-big_row c h Any kind.U16 k ns p ok all =
-    free-row CdrBig (λ s. refl) (λ n. tt) (λ s x. refl) (λ s p n. refl) refl refl c h Any k kind.U16 ns p ok two_fit refl tt all
-big_row c h (Exactly x) kind.I32 k ns p ok all =
-    fixed-row CdrBig (λ s. refl) (λ n. tt) (λ s x. refl) (λ s p n. refl) refl c h k kind.I32 x ns p ok all
-big_row c h (AtMost x) kind.I32 k ns p ok all =
-    free-row CdrBig (λ s. refl) (λ n. tt) (λ s x. refl) (λ s p n. refl) refl refl c h (AtMost x) k kind.I32 ns p ok four_fit refl tt all
-big_row c h Any kind.I32 k ns p ok all =
-    free-row CdrBig (λ s. refl) (λ n. tt) (λ s x. refl) (λ s p n. refl) refl refl c h Any k kind.I32 ns p ok four_fit refl tt all
-big_row c h (Exactly x) kind.U32 k ns p ok all =
-    fixed-row CdrBig (λ s. refl) (λ n. tt) (λ s x. refl) (λ s p n. refl) refl c h k kind.U32 x ns p ok all
-big_row c h (AtMost x) kind.U32 k ns p ok all =
-    free-row CdrBig (λ s. refl) (λ n. tt) (λ s x. refl) (λ s p n. refl) refl refl c h (AtMost x) k kind.U32 ns p ok four_fit refl tt all
-big_row c h Any kind.U32 k ns p ok all =
-    free-row CdrBig (λ s. refl) (λ n. tt) (λ s x. refl) (λ s p n. refl) refl refl c h Any k kind.U32 ns p ok four_fit refl tt all
-big_row c h (Exactly x) kind.I64 k ns p ok all =
-    fixed-row CdrBig (λ s. refl) (λ n. tt) (λ s x. refl) (λ s p n. refl) refl c h k kind.I64 x ns p ok all
-big_row c h (AtMost x) kind.I64 k ns p ok all =
-    gapped-row CdrBig (λ s. refl) (λ n. tt) (λ s x. refl) (λ s p n. refl) refl c h (AtMost x) k kind.I64 ns p ok tt all
-big_row c h Any kind.I64 k ns p ok all =
-    gapped-row CdrBig (λ s. refl) (λ n. tt) (λ s x. refl) (λ s p n. refl) refl c h Any k kind.I64 ns p ok tt all
-big_row c h (Exactly x) kind.U64 k ns p ok all =
-    fixed-row CdrBig (λ s. refl) (λ n. tt) (λ s x. refl) (λ s p n. refl) refl c h k kind.U64 x ns p ok all
-big_row c h (AtMost x) kind.U64 k ns p ok all =
-    gapped-row CdrBig (λ s. refl) (λ n. tt) (λ s x. refl) (λ s p n. refl) refl c h (AtMost x) k kind.U64 ns p ok tt all
-big_row c h Any kind.U64 k ns p ok all =
-    gapped-row CdrBig (λ s. refl) (λ n. tt) (λ s x. refl) (λ s p n. refl) refl c h Any k kind.U64 ns p ok tt all
+      gapped : (b : Count) → Allows b (length ns)
+          → Row c h b (append (count_code e b) (each [] (align 8 (number_chunk e (scalar_width e (number k)))) stop))
+          (scalar_octets e (number k)) j ns p
+      gapped b ok =
+          subst (λ (x : Block). Row c h b (append (count_code e b) (each [] x stop)) (scalar_octets e (number k)) j ns p) by_eight
+          (gapped-row c h b j k ns p ok (any p) all)
+
+      cases : (b : Count) → Allows b (length ns)
+          → Row c h b (append (row_code e (scalar_width e (number k)) b) (each [] (gapped_turn e (scalar_width e (number k)) (is_free b))
+          stop)) (scalar_octets e (number k)) j ns p
+      cases (Exactly m) ok = fixed-row c h j k m ns p ok all
+      cases (AtMost m) ok = gapped (AtMost m) ok
+      cases Any ok = gapped Any ok
+
+    pub cdr-row : (m : Kind) (c : Calls) (h : Head) (b : Count) (j : Kind) (ns : List ℤ) (p : ℕ) → Allows b (length ns)
+        → IsTrue (list_all (in_range m) ns)
+        → Row c h b (append (row_code e (element_width e (row_of m b)) b)
+        (each [] (gapped_turn e (element_width e (row_of m b)) (is_gapped (row_of m b))) stop)) (element_octets e (row_of m b)) j ns p
+    unfolding element_octets
+    cdr-row kind.Octet = octet-row
+    cdr-row kind.I8 = small-row kind.I8 one_fits
+    cdr-row kind.U8 = small-row kind.U8 one_fits
+    cdr-row kind.Char = small-row kind.Char one_fits
+    cdr-row kind.Bool = small-row kind.Bool one_fits
+    cdr-row kind.I16 = small-row kind.I16 two_fit
+    cdr-row kind.U16 = small-row kind.U16 two_fit
+    cdr-row kind.I32 = small-row kind.I32 four_fit
+    cdr-row kind.U32 = small-row kind.U32 four_fit
+    cdr-row kind.I64 = wide-row kind.I64 refl
+    cdr-row kind.U64 = wide-row kind.U64 refl
 
 pub big_scalar : ScalarsSend CdrBig
 big_scalar = scalars-send CdrBig (λ s. refl) (λ n. tt) (λ s x. refl) (λ s p n. refl) refl
@@ -390,82 +376,8 @@ pub big_array : ArraysSend CdrBig
 unfolding array_octets head_octets element_octets
 big_array c h (text b) k ns p typed few place =
     (tt, text-writes CdrBig (λ s. refl) (λ n. tt) (λ s x. refl) (λ s p n. refl) refl c h k ns p (letters_are_octets ns typed.2) few)
-big_array c h (row_of m b) k ns p typed few place = (tt, big_row c h b m k ns p typed.1 typed.2)
-
-little_row : (c : Calls) (h : Head) (b : Count) (m k : Kind) (ns : List ℤ) (p : ℕ) → Allows b (length ns)
-    → IsTrue (list_all (in_range m) ns)
-    → Writes (steps c h (array_code CdrLittle (row_of m b)) (row k ns)) p (array_octets CdrLittle (row_of m b) p ns)
-unfolding array_octets head_octets element_octets count_octets
-little_row c h (Exactly x) kind.Octet k ns p ok all = rw (← octets_same CdrLittle (inr refl) (p + 0) ns all)
-    (fixed-row CdrLittle (λ s. refl) (λ n. tt) (λ s x. refl) (λ s p n. refl) refl c h k kind.Octet x ns p ok all)
-little_row c h (AtMost x) kind.Octet k ns p ok all =
-    let q : ℕ = p + length (scalar_octets CdrLittle counted p (pos (length ns))) in
-    rw (← octets_same CdrLittle (inr refl) q ns all) (free-row CdrLittle (λ s. refl) (λ n. tt) (λ s x. refl) (λ s p n. refl) refl refl c h
-    (AtMost x) k kind.Octet ns p ok one_fits refl tt all)
-little_row c h Any kind.Octet k ns p ok all =
-    let q : ℕ = p + length (scalar_octets CdrLittle counted p (pos (length ns))) in
-    rw (← octets_same CdrLittle (inr refl) q ns all)
-    (free-row CdrLittle (λ s. refl) (λ n. tt) (λ s x. refl) (λ s p n. refl) refl refl c h Any k kind.Octet ns p ok one_fits refl tt all)
-little_row c h (Exactly x) kind.I8 k ns p ok all =
-    fixed-row CdrLittle (λ s. refl) (λ n. tt) (λ s x. refl) (λ s p n. refl) refl c h k kind.I8 x ns p ok all
-little_row c h (AtMost x) kind.I8 k ns p ok all =
-    free-row CdrLittle (λ s. refl) (λ n. tt) (λ s x. refl) (λ s p n. refl) refl refl c h (AtMost x) k kind.I8 ns p ok one_fits refl tt all
-little_row c h Any kind.I8 k ns p ok all =
-    free-row CdrLittle (λ s. refl) (λ n. tt) (λ s x. refl) (λ s p n. refl) refl refl c h Any k kind.I8 ns p ok one_fits refl tt all
-little_row c h (Exactly x) kind.U8 k ns p ok all =
-    fixed-row CdrLittle (λ s. refl) (λ n. tt) (λ s x. refl) (λ s p n. refl) refl c h k kind.U8 x ns p ok all
-little_row c h (AtMost x) kind.U8 k ns p ok all =
-    free-row CdrLittle (λ s. refl) (λ n. tt) (λ s x. refl) (λ s p n. refl) refl refl c h (AtMost x) k kind.U8 ns p ok one_fits refl tt all
-little_row c h Any kind.U8 k ns p ok all =
-    free-row CdrLittle (λ s. refl) (λ n. tt) (λ s x. refl) (λ s p n. refl) refl refl c h Any k kind.U8 ns p ok one_fits refl tt all
-little_row c h (Exactly x) kind.Char k ns p ok all =
-    fixed-row CdrLittle (λ s. refl) (λ n. tt) (λ s x. refl) (λ s p n. refl) refl c h k kind.Char x ns p ok all
-little_row c h (AtMost x) kind.Char k ns p ok all =
-    free-row CdrLittle (λ s. refl) (λ n. tt) (λ s x. refl) (λ s p n. refl) refl refl c h (AtMost x) k kind.Char ns p ok one_fits refl tt all
-little_row c h Any kind.Char k ns p ok all =
-    free-row CdrLittle (λ s. refl) (λ n. tt) (λ s x. refl) (λ s p n. refl) refl refl c h Any k kind.Char ns p ok one_fits refl tt all
-little_row c h (Exactly x) kind.Bool k ns p ok all =
-    fixed-row CdrLittle (λ s. refl) (λ n. tt) (λ s x. refl) (λ s p n. refl) refl c h k kind.Bool x ns p ok all
-little_row c h (AtMost x) kind.Bool k ns p ok all =
-    free-row CdrLittle (λ s. refl) (λ n. tt) (λ s x. refl) (λ s p n. refl) refl refl c h (AtMost x) k kind.Bool ns p ok one_fits refl tt all
-little_row c h Any kind.Bool k ns p ok all =
-    free-row CdrLittle (λ s. refl) (λ n. tt) (λ s x. refl) (λ s p n. refl) refl refl c h Any k kind.Bool ns p ok one_fits refl tt all
-little_row c h (Exactly x) kind.I16 k ns p ok all =
-    fixed-row CdrLittle (λ s. refl) (λ n. tt) (λ s x. refl) (λ s p n. refl) refl c h k kind.I16 x ns p ok all
-little_row c h (AtMost x) kind.I16 k ns p ok all =
-    free-row CdrLittle (λ s. refl) (λ n. tt) (λ s x. refl) (λ s p n. refl) refl refl c h (AtMost x) k kind.I16 ns p ok two_fit refl tt all
-little_row c h Any kind.I16 k ns p ok all =
-    free-row CdrLittle (λ s. refl) (λ n. tt) (λ s x. refl) (λ s p n. refl) refl refl c h Any k kind.I16 ns p ok two_fit refl tt all
-little_row c h (Exactly x) kind.U16 k ns p ok all =
-    fixed-row CdrLittle (λ s. refl) (λ n. tt) (λ s x. refl) (λ s p n. refl) refl c h k kind.U16 x ns p ok all
-little_row c h (AtMost x) kind.U16 k ns p ok all =
-    free-row CdrLittle (λ s. refl) (λ n. tt) (λ s x. refl) (λ s p n. refl) refl refl c h (AtMost x) k kind.U16 ns p ok two_fit refl tt all
-little_row c h Any kind.U16 k ns p ok all =
-    free-row CdrLittle (λ s. refl) (λ n. tt) (λ s x. refl) (λ s p n. refl) refl refl c h Any k kind.U16 ns p ok two_fit refl tt all
-little_row c h (Exactly x) kind.I32 k ns p ok all =
-    fixed-row CdrLittle (λ s. refl) (λ n. tt) (λ s x. refl) (λ s p n. refl) refl c h k kind.I32 x ns p ok all
-little_row c h (AtMost x) kind.I32 k ns p ok all =
-    free-row CdrLittle (λ s. refl) (λ n. tt) (λ s x. refl) (λ s p n. refl) refl refl c h (AtMost x) k kind.I32 ns p ok four_fit refl tt all
-little_row c h Any kind.I32 k ns p ok all =
-    free-row CdrLittle (λ s. refl) (λ n. tt) (λ s x. refl) (λ s p n. refl) refl refl c h Any k kind.I32 ns p ok four_fit refl tt all
-little_row c h (Exactly x) kind.U32 k ns p ok all =
-    fixed-row CdrLittle (λ s. refl) (λ n. tt) (λ s x. refl) (λ s p n. refl) refl c h k kind.U32 x ns p ok all
-little_row c h (AtMost x) kind.U32 k ns p ok all =
-    free-row CdrLittle (λ s. refl) (λ n. tt) (λ s x. refl) (λ s p n. refl) refl refl c h (AtMost x) k kind.U32 ns p ok four_fit refl tt all
-little_row c h Any kind.U32 k ns p ok all =
-    free-row CdrLittle (λ s. refl) (λ n. tt) (λ s x. refl) (λ s p n. refl) refl refl c h Any k kind.U32 ns p ok four_fit refl tt all
-little_row c h (Exactly x) kind.I64 k ns p ok all =
-    fixed-row CdrLittle (λ s. refl) (λ n. tt) (λ s x. refl) (λ s p n. refl) refl c h k kind.I64 x ns p ok all
-little_row c h (AtMost x) kind.I64 k ns p ok all =
-    gapped-row CdrLittle (λ s. refl) (λ n. tt) (λ s x. refl) (λ s p n. refl) refl c h (AtMost x) k kind.I64 ns p ok tt all
-little_row c h Any kind.I64 k ns p ok all =
-    gapped-row CdrLittle (λ s. refl) (λ n. tt) (λ s x. refl) (λ s p n. refl) refl c h Any k kind.I64 ns p ok tt all
-little_row c h (Exactly x) kind.U64 k ns p ok all =
-    fixed-row CdrLittle (λ s. refl) (λ n. tt) (λ s x. refl) (λ s p n. refl) refl c h k kind.U64 x ns p ok all
-little_row c h (AtMost x) kind.U64 k ns p ok all =
-    gapped-row CdrLittle (λ s. refl) (λ n. tt) (λ s x. refl) (λ s p n. refl) refl c h (AtMost x) k kind.U64 ns p ok tt all
-little_row c h Any kind.U64 k ns p ok all =
-    gapped-row CdrLittle (λ s. refl) (λ n. tt) (λ s x. refl) (λ s p n. refl) refl c h Any k kind.U64 ns p ok tt all
+big_array c h (row_of m b) k ns p typed few place =
+    (tt, cdr-row CdrBig (λ s. refl) (λ n. tt) (λ s x. refl) (λ s p n. refl) refl (λ m. refl) m c h b k ns p typed.1 typed.2)
 
 pub little_scalar : ScalarsSend CdrLittle
 little_scalar = scalars-send CdrLittle (λ s. refl) (λ n. tt) (λ s x. refl) (λ s p n. refl) refl
@@ -474,4 +386,5 @@ pub little_array : ArraysSend CdrLittle
 unfolding array_octets head_octets element_octets
 little_array c h (text b) k ns p typed few place =
     (tt, text-writes CdrLittle (λ s. refl) (λ n. tt) (λ s x. refl) (λ s p n. refl) refl c h k ns p (letters_are_octets ns typed.2) few)
-little_array c h (row_of m b) k ns p typed few place = (tt, little_row c h b m k ns p typed.1 typed.2)
+little_array c h (row_of m b) k ns p typed few place =
+    (tt, cdr-row CdrLittle (λ s. refl) (λ n. tt) (λ s x. refl) (λ s p n. refl) refl (λ m. refl) m c h b k ns p typed.1 typed.2)

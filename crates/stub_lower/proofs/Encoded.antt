@@ -9,7 +9,7 @@ use Rattle.mint.specs.declared.kind.Kind.TheVariants as kind
 use Rattle.mint.specs.declared.kind.Count.{Count}
 use Rattle.mint.specs.declared.kind.Count.TheVariants.{Exactly, AtMost, Any}
 use Rattle.mint.specs.Kinds.{Allows, in_range, is_letter}
-use Rattle.mint.specs.Types.{Scalar, number, label, Array, text, row_of}
+use Rattle.mint.specs.Types.{Scalar, number, Array, text, row_of}
 use Rattle.mint.specs.Typed.{IsScalar, IsArray}
 use Rattle.mint.specs.Values.{Val, num, row, vals_of}
 use Rattle.wire_def.specs.declared.encoding.Encoding.{Encoding}
@@ -63,32 +63,12 @@ second_true true b e = e
 second_true false b e = absurd cc
 
 scalar_long : (s : Scalar) (m : ℕ) → length (number_octets Xdr (width_of Xdr s) m) ≡ scalar_width Xdr s
-scalar_long (label ls) m = refl
-scalar_long (number kind.I64) m = refl
-scalar_long (number kind.U64) m = refl
 scalar_long (number kind.Octet) m = refl
-scalar_long (number kind.I8) m = refl
-scalar_long (number kind.U8) m = refl
-scalar_long (number kind.Char) m = refl
-scalar_long (number kind.I16) m = refl
-scalar_long (number kind.U16) m = refl
-scalar_long (number kind.I32) m = refl
-scalar_long (number kind.U32) m = refl
-scalar_long (number kind.Bool) m = refl
+scalar_long _ m = refl
 
 scalar_placed : (s : Scalar) → IsPlace Xdr (scalar_width Xdr s)
-scalar_placed (label ls) = refl
-scalar_placed (number kind.I64) = refl
-scalar_placed (number kind.U64) = refl
 scalar_placed (number kind.Octet) = refl
-scalar_placed (number kind.I8) = refl
-scalar_placed (number kind.U8) = refl
-scalar_placed (number kind.Char) = refl
-scalar_placed (number kind.I16) = refl
-scalar_placed (number kind.U16) = refl
-scalar_placed (number kind.I32) = refl
-scalar_placed (number kind.U32) = refl
-scalar_placed (number kind.Bool) = refl
+scalar_placed _ = refl
 
 -- one chunk, filled by the number
 chunk-sends : (h : Head) (s : Scalar) (n : ℤ) (x : Put) (v : Val) (p : ℕ) → IsScalar s n → offset x ≡ 0

@@ -1,5 +1,5 @@
 -- The code of a node goes through its type in order.
-use Rattle.std.proofs.Common.{◌≡◌, inr, ℕ, zero, suc, ◌+◌, ◌<◌, ◌≤◌, ℤ, List, [], ◌∷◌, replicate, Option, Some, None, refl, arith, Bool, true, false}
+use Rattle.std.proofs.Common.{◌≡◌, inr, ℕ, zero, suc, ◌+◌, ◌<◌, ◌≤◌, ℤ, List, [], ◌∷◌, replicate, Option, Some, None, refl, ap, arith, Bool, true, false}
 use Rattle.kit_base.specs.Bytes.{le}
 use Rattle.std.specs.Prelude.{nat_eq, nat_lt, if◌then◌else◌}
 use Rattle.mint.specs.declared.kind.Count.{Count}
@@ -120,6 +120,17 @@ filled : (t : Bool) → Few 1 (if t then align 4 stop else stop)
 filled true = (1, refl, omega arith)
 filled false = (0, refl, omega arith)
 
+-- the turn alone
+row_rest : (e : Encoding) (a : Array) → after_code e a ≡ stop → Turn (layout_of e a) (turn_code e a) → Rest e a
+row_rest e a none t = record {
+  turn = t.many;
+  turn_is = t.is;
+  after = 0;
+  after_is = ap flat none;
+  few = (t.few.0, t.few.1, omega (arith, t.few.2));
+  single = t.single;
+}
+
 rests : (e : Encoding) (a : Array) → Rest e a
 rests Xdr a =
     let f = filled (is_octets a) in
@@ -127,15 +138,11 @@ rests Xdr a =
 rests CdrBig (text c) =
     record { turn = 1; turn_is = refl; after = 1; after_is = refl; few = (refl, omega arith, omega arith); single = refl }
 rests CdrBig (row_of k c) =
-    let t = gapped-turn CdrBig (element_width CdrBig (row_of k c)) (is_gapped (row_of k c)) in
-    record
-    { turn = t.many; turn_is = t.is; after = 0; after_is = refl; few = (t.few.0, t.few.1, omega (arith, t.few.2)); single = t.single }
+    row_rest CdrBig (row_of k c) refl (gapped-turn CdrBig (element_width CdrBig (row_of k c)) (is_gapped (row_of k c)))
 rests CdrLittle (text c) =
     record { turn = 1; turn_is = refl; after = 1; after_is = refl; few = (refl, omega arith, omega arith); single = refl }
 rests CdrLittle (row_of k c) =
-    let t = gapped-turn CdrLittle (element_width CdrLittle (row_of k c)) (is_gapped (row_of k c)) in
-    record
-    { turn = t.many; turn_is = t.is; after = 0; after_is = refl; few = (t.few.0, t.few.1, omega (arith, t.few.2)); single = t.single }
+    row_rest CdrLittle (row_of k c) refl (gapped-turn CdrLittle (element_width CdrLittle (row_of k c)) (is_gapped (row_of k c)))
 rests Mach a =
     let f = filled (nat_lt (element_width Mach a) 4) in
     record { turn = 1; turn_is = refl; after = f.0; after_is = f.1; few = (refl, omega arith, omega (arith, f.2)); single = refl }

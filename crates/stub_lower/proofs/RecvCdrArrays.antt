@@ -17,7 +17,7 @@ use Rattle.wire_def.specs.declared.head.Order.{Order}
 use Rattle.wire_def.specs.declared.head.Order.TheVariants.{Big, Little}
 use Rattle.wire_def.specs.Grammar.{Reading, got, stop, Reader, AreOctets, then_on, map_got, times}
 use Rattle.wire_def.specs.Places.{IsPlace}
-use Rattle.wire_def.specs.Scalars.{gap, scalar_place, width_of, alignment_of, read_scalar}
+use Rattle.wire_def.specs.Scalars.{gap, scalar_place, own_width, width_of, alignment_of, read_scalar}
 use Rattle.wire_def.specs.Described.{allowed}
 use Rattle.wire_def.specs.Arrays.{counted, is_some, less_one, may_stand, read_count, read_ended, read_head, read_octet, read_zeros, read_element, read_tail, read_array}
 use Rattle.wire_def.proofs.Words.{own_of, octet_at}
@@ -29,10 +29,10 @@ use Rattle.cast_stub.specs.Draft.{Draft, raw, digit, lined, done}
 use Rattle.cast_stub.specs.Fill.{settled_number, runs, Callees, fill, all_got}
 use Rattle.cast_stub.specs.Into.{passed, same_octets, scalar_into, length_into, count_into, allows}
 use Rattle.cast_stub.specs.Runs.{Place, Run, gives, refuses, strays, Filler, then_run, if_passed}
-use Rattle.cast_stub.specs.Layouts.{order_of, scalar_width, is_free}
+use Rattle.cast_stub.specs.Layouts.{order_of, scalar_width, element_width, is_free, is_gapped}
 use Rattle.stub_lower.specs.RecvCodes.{aligned, take_code, number_take, gapped_turn, count_code, row_code, end_code}
 use Rattle.stub_lower.proofs.Words.{width_same}
-use Rattle.stub_lower.proofs.Cdr.{no_gap_after, still_none}
+use Rattle.stub_lower.proofs.Cdr.{no_gap_after, still_none, one_fits, two_fit, four_fit}
 use Rattle.stub_lower.proofs.Agreeing.{Agrees, Same, Settles, agrees-then, agrees-wider, agrees-ends, agrees-runs, SameEnds, ends-same, ends-map, ends-then}
 use Rattle.stub_lower.proofs.RecvEncoded.{tested_place, passed_place, pass_tested, le_true, octets_dropped, same_true, reads-wider, taken, After, LonesRead}
 use Rattle.stub_lower.proofs.RecvArrays.{ArraysRead, Opens, read_body, read_whole, array-reads, count-opens, numbers-agree, number-agrees, octets-agree, letter_passes, octet_passes}
@@ -404,7 +404,7 @@ module _ (e : Encoding) (aligns : (s : Scalar) → alignment_of e s ≡ byte_len
         moved false = refl
 
   -- a row of numbers of at most 32 bits
-  pub row-reads : (c : Callees) (k : Kind) (b : Count) (s : Place) → ((q : ℕ) → q % 4 ≡ 0 → gap q (wide k) ≡ 0) → AreOctets s.left
+  row-reads : (c : Callees) (k : Kind) (b : Count) (s : Place) → ((q : ℕ) → q % 4 ≡ 0 → gap q (wide k) ≡ 0) → AreOctets s.left
       → Agrees (IsPlace e) Settles (row_filled c k b (row_code e (wide k) b) (turn_of k) s) (row_read k b (read_scalar e (number k)) s)
   row-reads c k (Exactly zero) s small oct = fixed-none c k (turn_of k) (read_scalar e (number k)) s oct
   row-reads c k (Exactly (suc m)) s small oct = fixed-some c k m s oct
@@ -412,7 +412,7 @@ module _ (e : Encoding) (aligns : (s : Scalar) → alignment_of e s ≡ byte_len
   row-reads c k Any s small oct = free-row c k Any s (λ (n : ℕ) is. cc) small oct
 
   -- one of numbers of 64 bits
-  pub wide-reads : (c : Callees) (k : Kind) (b : Count) (s : Place) → wide k ≡ 8 → AreOctets s.left
+  wide-reads : (c : Callees) (k : Kind) (b : Count) (s : Place) → wide k ≡ 8 → AreOctets s.left
       → Agrees (IsPlace e) Settles (row_filled c k b (row_code e (wide k) b) (gapped_turn e (wide k) (is_free b)) s)
       (row_read k b (read_scalar e (number k)) s)
   wide-reads c k (Exactly zero) s eight oct = fixed-none c k (turn_of k) (read_scalar e (number k)) s oct
@@ -427,7 +427,7 @@ module _ (e : Encoding) (aligns : (s : Scalar) → alignment_of e s ≡ byte_len
       (by_eight (wide k) (turn_of k) eight) (gapped-row c k Any s (λ (n : ℕ) is. cc) oct)
 
   -- a row of octets
-  pub octets-read : (c : Callees) (b : Count) (s : Place) → AreOctets s.left
+  octets-read : (c : Callees) (b : Count) (s : Place) → AreOctets s.left
       → Agrees (IsPlace e) Settles (row_filled c kind.Octet b (row_code e 1 b) (number_take e 1) s)
       (row_read kind.Octet b (read_octet (λ x. true) BadText) s)
   unfolding read_count
@@ -470,14 +470,29 @@ module _ (e : Encoding) (aligns : (s : Scalar) → alignment_of e s ≡ byte_len
     cases (AtMost m) = free (AtMost m) (λ (n : ℕ) is. cc)
     cases Any = free Any (λ (n : ℕ) is. cc)
 
-fits_one : (q : ℕ) → q % 4 ≡ 0 → gap q 1 ≡ 0
-fits_one q h = omega arith
+  module _ (own : (k : Kind) → width_of e (number k) ≡ own_width (number k)) where
+    -- a row of numbers of at most 32 bits
+    small-reads : (k : Kind) → ((q : ℕ) → q % 4 ≡ 0 → gap q (byte_len (own_width (number k))) ≡ 0) → (c : Callees) (b : Count) (s : Place)
+        → AreOctets s.left
+        → Agrees (IsPlace e) Settles (row_filled c k b (row_code e (wide k) b) (turn_of k) s) (row_read k b (read_scalar e (number k)) s)
+    small-reads k small c b s oct =
+        row-reads c k b s (subst (λ (w : Width). (q : ℕ) → q % 4 ≡ 0 → gap q (byte_len w) ≡ 0) (sym (own k)) small) oct
 
-fits_two : (q : ℕ) → q % 4 ≡ 0 → gap q 2 ≡ 0
-fits_two q h = omega (arith, h)
-
-fits_four : (q : ℕ) → q % 4 ≡ 0 → gap q 4 ≡ 0
-fits_four q h = omega (arith, h)
+    pub cdr-reads : (k : Kind) (c : Callees) (b : Count) (s : Place) → AreOctets s.left
+        → Agrees (IsPlace e) Settles (row_filled c k b (row_code e (element_width e (row_of k b)) b)
+        (gapped_turn e (element_width e (row_of k b)) (is_gapped (row_of k b))) s) (row_read k b (read_element e (row_of k b)) s)
+    unfolding read_element
+    cdr-reads kind.Octet = octets-read
+    cdr-reads kind.I8 = small-reads kind.I8 one_fits
+    cdr-reads kind.U8 = small-reads kind.U8 one_fits
+    cdr-reads kind.Char = small-reads kind.Char one_fits
+    cdr-reads kind.Bool = small-reads kind.Bool one_fits
+    cdr-reads kind.I16 = small-reads kind.I16 two_fit
+    cdr-reads kind.U16 = small-reads kind.U16 two_fit
+    cdr-reads kind.I32 = small-reads kind.I32 four_fit
+    cdr-reads kind.U32 = small-reads kind.U32 four_fit
+    cdr-reads kind.I64 = λ c b s. wide-reads c kind.I64 b s (ap byte_len (own kind.I64))
+    cdr-reads kind.U64 = λ c b s. wide-reads c kind.U64 b s (ap byte_len (own kind.U64))
 
 whole_words : (q : ℕ) → gap q 4 ≡ 0 → q % 4 ≡ 0
 whole_words q h = omega (arith, h)
@@ -485,51 +500,11 @@ whole_words q h = omega (arith, h)
 pub big_array : ArraysRead CdrBig
 unfolding read_array read_head read_element read_tail
 big_array c (text b) s here oct = text-reads CdrBig (λ (x : Scalar). refl) refl (λ (q : ℕ). tt) big_scalar whole_words c b s oct
-big_array c (row_of kind.Octet b) s here oct =
-    octets-read CdrBig (λ (x : Scalar). refl) refl (λ (q : ℕ). tt) big_scalar whole_words c b s oct
-big_array c (row_of kind.I8 b) s here oct =
-    row-reads CdrBig (λ (x : Scalar). refl) refl (λ (q : ℕ). tt) big_scalar whole_words c kind.I8 b s fits_one oct
-big_array c (row_of kind.U8 b) s here oct =
-    row-reads CdrBig (λ (x : Scalar). refl) refl (λ (q : ℕ). tt) big_scalar whole_words c kind.U8 b s fits_one oct
-big_array c (row_of kind.Char b) s here oct =
-    row-reads CdrBig (λ (x : Scalar). refl) refl (λ (q : ℕ). tt) big_scalar whole_words c kind.Char b s fits_one oct
-big_array c (row_of kind.Bool b) s here oct =
-    row-reads CdrBig (λ (x : Scalar). refl) refl (λ (q : ℕ). tt) big_scalar whole_words c kind.Bool b s fits_one oct
-big_array c (row_of kind.I16 b) s here oct =
-    row-reads CdrBig (λ (x : Scalar). refl) refl (λ (q : ℕ). tt) big_scalar whole_words c kind.I16 b s fits_two oct
-big_array c (row_of kind.U16 b) s here oct =
-    row-reads CdrBig (λ (x : Scalar). refl) refl (λ (q : ℕ). tt) big_scalar whole_words c kind.U16 b s fits_two oct
-big_array c (row_of kind.I32 b) s here oct =
-    row-reads CdrBig (λ (x : Scalar). refl) refl (λ (q : ℕ). tt) big_scalar whole_words c kind.I32 b s fits_four oct
-big_array c (row_of kind.U32 b) s here oct =
-    row-reads CdrBig (λ (x : Scalar). refl) refl (λ (q : ℕ). tt) big_scalar whole_words c kind.U32 b s fits_four oct
-big_array c (row_of kind.I64 b) s here oct =
-    wide-reads CdrBig (λ (x : Scalar). refl) refl (λ (q : ℕ). tt) big_scalar whole_words c kind.I64 b s refl oct
-big_array c (row_of kind.U64 b) s here oct =
-    wide-reads CdrBig (λ (x : Scalar). refl) refl (λ (q : ℕ). tt) big_scalar whole_words c kind.U64 b s refl oct
+big_array c (row_of k b) s here oct =
+    cdr-reads CdrBig (λ (x : Scalar). refl) refl (λ (q : ℕ). tt) big_scalar whole_words (λ (k : Kind). refl) k c b s oct
 
 pub little_array : ArraysRead CdrLittle
 unfolding read_array read_head read_element read_tail
 little_array c (text b) s here oct = text-reads CdrLittle (λ (x : Scalar). refl) refl (λ (q : ℕ). tt) little_scalar whole_words c b s oct
-little_array c (row_of kind.Octet b) s here oct =
-    octets-read CdrLittle (λ (x : Scalar). refl) refl (λ (q : ℕ). tt) little_scalar whole_words c b s oct
-little_array c (row_of kind.I8 b) s here oct =
-    row-reads CdrLittle (λ (x : Scalar). refl) refl (λ (q : ℕ). tt) little_scalar whole_words c kind.I8 b s fits_one oct
-little_array c (row_of kind.U8 b) s here oct =
-    row-reads CdrLittle (λ (x : Scalar). refl) refl (λ (q : ℕ). tt) little_scalar whole_words c kind.U8 b s fits_one oct
-little_array c (row_of kind.Char b) s here oct =
-    row-reads CdrLittle (λ (x : Scalar). refl) refl (λ (q : ℕ). tt) little_scalar whole_words c kind.Char b s fits_one oct
-little_array c (row_of kind.Bool b) s here oct =
-    row-reads CdrLittle (λ (x : Scalar). refl) refl (λ (q : ℕ). tt) little_scalar whole_words c kind.Bool b s fits_one oct
-little_array c (row_of kind.I16 b) s here oct =
-    row-reads CdrLittle (λ (x : Scalar). refl) refl (λ (q : ℕ). tt) little_scalar whole_words c kind.I16 b s fits_two oct
-little_array c (row_of kind.U16 b) s here oct =
-    row-reads CdrLittle (λ (x : Scalar). refl) refl (λ (q : ℕ). tt) little_scalar whole_words c kind.U16 b s fits_two oct
-little_array c (row_of kind.I32 b) s here oct =
-    row-reads CdrLittle (λ (x : Scalar). refl) refl (λ (q : ℕ). tt) little_scalar whole_words c kind.I32 b s fits_four oct
-little_array c (row_of kind.U32 b) s here oct =
-    row-reads CdrLittle (λ (x : Scalar). refl) refl (λ (q : ℕ). tt) little_scalar whole_words c kind.U32 b s fits_four oct
-little_array c (row_of kind.I64 b) s here oct =
-    wide-reads CdrLittle (λ (x : Scalar). refl) refl (λ (q : ℕ). tt) little_scalar whole_words c kind.I64 b s refl oct
-little_array c (row_of kind.U64 b) s here oct =
-    wide-reads CdrLittle (λ (x : Scalar). refl) refl (λ (q : ℕ). tt) little_scalar whole_words c kind.U64 b s refl oct
+little_array c (row_of k b) s here oct =
+    cdr-reads CdrLittle (λ (x : Scalar). refl) refl (λ (q : ℕ). tt) little_scalar whole_words (λ (k : Kind). refl) k c b s oct

@@ -1,5 +1,5 @@
 -- What the descriptors of rows and texts of Mach messages read.
-use Rattle.std.proofs.Common.{◌≡◌, ◌⊎◌, inl, inr, ℕ, ◌+◌, ◌-◌, ◌*◌, ◌/◌, ◌%◌, ◌^◌, ◌<◌, ◌≤◌, List, [], ◌∷◌, length, take, drop, Option, Some, None, refl, sym, ap, subst, ◌∙◌, arith, Bool, true, false, ◌&&◌, if◌then◌else◌}
+use Rattle.std.proofs.Common.{◌≡◌, ◌⊎◌, inl, inr, ℕ, ◌+◌, ◌-◌, ◌*◌, ◌/◌, ◌%◌, ◌^◌, ◌<◌, ◌≤◌, List, ◌∷◌, length, take, drop, Option, Some, None, refl, sym, ap, subst, ◌∙◌, arith, Bool, true, false, ◌&&◌, if◌then◌else◌}
 use Rattle.std.specs.Prelude.{nat_lt, nat_le, nat_eq}
 use Rattle.std.specs.Int.{w16, w32, w64, from_le_bytes}
 use Rattle.std.proofs.lemmas.Bool.{lt-ltb, le-ltb, ltb-true, ltb-false, le-leb, lt-leb, eq-eqb, ne_eqb, eqb-true, eqb-false}
@@ -135,18 +135,6 @@ record Parted (o : List ℕ) : Type 0 where
   many : little w32 8 4 o < 4294967296
 
 parted : (o : List ℕ) → AreOctets o → 12 ≤ length o → Parted o
-parted [] oct h = absurd (omega (arith, h))
-parted (a ∷ []) oct h = absurd (omega (arith, h))
-parted (a ∷ b ∷ []) oct h = absurd (omega (arith, h))
-parted (a ∷ b ∷ c ∷ []) oct h = absurd (omega (arith, h))
-parted (a ∷ b ∷ c ∷ d ∷ []) oct h = absurd (omega (arith, h))
-parted (a ∷ b ∷ c ∷ d ∷ e ∷ []) oct h = absurd (omega (arith, h))
-parted (a ∷ b ∷ c ∷ d ∷ e ∷ f ∷ []) oct h = absurd (omega (arith, h))
-parted (a ∷ b ∷ c ∷ d ∷ e ∷ f ∷ g ∷ []) oct h = absurd (omega (arith, h))
-parted (a ∷ b ∷ c ∷ d ∷ e ∷ f ∷ g ∷ i ∷ []) oct h = absurd (omega (arith, h))
-parted (a ∷ b ∷ c ∷ d ∷ e ∷ f ∷ g ∷ i ∷ j ∷ []) oct h = absurd (omega (arith, h))
-parted (a ∷ b ∷ c ∷ d ∷ e ∷ f ∷ g ∷ i ∷ j ∷ k ∷ []) oct h = absurd (omega (arith, h))
-parted (a ∷ b ∷ c ∷ d ∷ e ∷ f ∷ g ∷ i ∷ j ∷ k ∷ l ∷ []) oct h = absurd (omega (arith, h))
 parted (a ∷ b ∷ c ∷ d ∷ e ∷ f ∷ g ∷ i ∷ j ∷ k ∷ l ∷ m ∷ o) oct h =
     let e_few : e < 256 = oct.1.1.1.1.0 in
     let f_few : f < 256 = oct.1.1.1.1.1.0 in
@@ -161,6 +149,7 @@ parted (a ∷ b ∷ c ∷ d ∷ e ∷ f ∷ g ∷ i ∷ j ∷ k ∷ l ∷ m ∷ 
       few = omega (arith, e_few, f_few);
       many = omega (arith, j_few, k_few, l_few, m_few);
     }
+parted _ oct h = absurd (omega (arith, h))
 
 module _ (c : Count) (s : Scalar) where
   -- the long form

@@ -14,7 +14,7 @@ use Rattle.mint.specs.Values.{row}
 use Rattle.wire_def.specs.declared.encoding.Encoding.TheVariants.{Mach}
 use Rattle.wire_def.specs.declared.fault.FaultKind.{FaultKind}
 use Rattle.wire_def.specs.declared.fault.FaultKind.TheVariants.{Short, BadText, BadItem, OverBound}
-use Rattle.wire_def.specs.Grammar.{got, stop, Reader, AreOctets, map_got, times}
+use Rattle.wire_def.specs.Grammar.{Reading, got, stop, Reader, AreOctets, map_got, times}
 use Rattle.wire_def.specs.Places.{IsPlace}
 use Rattle.wire_def.specs.Scalars.{gap, read_scalar}
 use Rattle.wire_def.specs.Lone.{unit_name, unit_bits, units_of, read_any}
@@ -75,6 +75,15 @@ module _ (c : Callees) (a : Array) where
     found None = tt
     found (Some k) = fits k (allows (count_of a) k)
 
+  -- the count of a short descriptor, and of a long one
+  abbrev short_units : Scalar → Place → Reading FaultKind ℕ
+  short_units x s = units_by (count_of a) (units_of x)
+      (nat_eq (little w32 0 4 s.left % 256) (unit_name x) && nat_eq (little w32 0 4 s.left / 256 % 256) (unit_bits x))
+      (little w32 0 4 s.left / 65536 % 4096) (s.pos + 4) (drop 4 s.left)
+
+  abbrev long_units : Scalar → Place → Reading FaultKind ℕ
+  long_units x s = units_by (count_of a) (units_of x) (long_right x s.left) (little w32 8 4 s.left) (s.pos + 12) (drop 12 s.left)
+
   -- a descriptor in either form
   desc-agrees : (x : Scalar) (s : Place) → IsPlace Mach s.pos → AreOctets s.left
       → Agrees (IsPlace Mach) (Counted a) (desc_into (unit_name x) (unit_bits x) (units_of x) (raw (array_type a)) s)
@@ -88,8 +97,7 @@ module _ (c : Callees) (a : Array) where
         (then_run (if b then refuses else gives (raw (array_type a)) (tested_place 12 (tested_place 4 s)))
         (λ y u. units_into (nat_eq (little w16 4 2 u.left) (unit_name x) && nat_eq (little w16 6 2 u.left) (unit_bits x)) (units_of x)
         (little w32 8 4 u.left) 12 y u))
-        (if b then stop Short s.pos
-        else units_by (count_of a) (units_of x) (long_right x s.left) (little w32 8 4 s.left) (s.pos + 12) (drop 12 s.left))
+        (if b then stop Short s.pos else long_units x s)
     long true = tt
     long false = units-agree (units_of x) (long_right x s.left) (little w32 8 4 s.left) 12 (tested_place 12 (tested_place 4 s))
         (omega arith) (omega (arith, here)) oct
@@ -98,11 +106,7 @@ module _ (c : Callees) (a : Array) where
         → Agrees (IsPlace Mach) (Counted a)
         (if b then short_into (unit_name x) (unit_bits x) (units_of x) (little w32 0 4 s.left) (raw (array_type a)) (tested_place 4 s)
         else refuses)
-        (if b
-        then units_by (count_of a) (units_of x)
-        (nat_eq (little w32 0 4 s.left % 256) (unit_name x) && nat_eq (little w32 0 4 s.left / 256 % 256) (unit_bits x))
-        (little w32 0 4 s.left / 65536 % 4096) (s.pos + 4) (drop 4 s.left)
-        else stop BadItem s.pos)
+        (if b then short_units x s else stop BadItem s.pos)
     short true = units-agree (units_of x)
         (nat_eq (little w32 0 4 s.left % 256) (unit_name x) && nat_eq (little w32 0 4 s.left / 256 % 256) (unit_bits x))
         (little w32 0 4 s.left / 65536 % 4096) 4 (tested_place 4 s) (omega arith) (omega (arith, here)) oct
@@ -115,13 +119,8 @@ module _ (c : Callees) (a : Array) where
         then short_into (unit_name x) (unit_bits x) (units_of x) (little w32 0 4 s.left) (raw (array_type a)) (tested_place 4 s)
         else refuses))
         (if b
-        then (if nat_lt (length s.left) 12 then stop Short s.pos
-        else units_by (count_of a) (units_of x) (long_right x s.left) (little w32 8 4 s.left) (s.pos + 12) (drop 12 s.left))
-        else (if nat_eq (little w32 0 4 s.left / 2 ^ 28) 1
-        then units_by (count_of a) (units_of x)
-        (nat_eq (little w32 0 4 s.left % 256) (unit_name x) && nat_eq (little w32 0 4 s.left / 256 % 256) (unit_bits x))
-        (little w32 0 4 s.left / 65536 % 4096) (s.pos + 4) (drop 4 s.left)
-        else stop BadItem s.pos))
+        then (if nat_lt (length s.left) 12 then stop Short s.pos else long_units x s)
+        else (if nat_eq (little w32 0 4 s.left / 2 ^ 28) 1 then short_units x s else stop BadItem s.pos))
     form true = long (nat_lt (length s.left) 12)
     form false = short (nat_eq (little w32 0 4 s.left / 2 ^ 28) 1)
 
@@ -130,13 +129,8 @@ module _ (c : Callees) (a : Array) where
         (λ y u. form_into (unit_name x) (unit_bits x) (units_of x) (little w32 0 4 u.left) y u))
         (if b then stop Short s.pos
         else (if is_marked (little w32 0 4 s.left)
-        then (if nat_lt (length s.left) 12 then stop Short s.pos
-        else units_by (count_of a) (units_of x) (long_right x s.left) (little w32 8 4 s.left) (s.pos + 12) (drop 12 s.left))
-        else (if nat_eq (little w32 0 4 s.left / 2 ^ 28) 1
-        then units_by (count_of a) (units_of x)
-        (nat_eq (little w32 0 4 s.left % 256) (unit_name x) && nat_eq (little w32 0 4 s.left / 256 % 256) (unit_bits x))
-        (little w32 0 4 s.left / 65536 % 4096) (s.pos + 4) (drop 4 s.left)
-        else stop BadItem s.pos)))
+        then (if nat_lt (length s.left) 12 then stop Short s.pos else long_units x s)
+        else (if nat_eq (little w32 0 4 s.left / 2 ^ 28) 1 then short_units x s else stop BadItem s.pos)))
     first true = tt
     first false = form (is_marked (little w32 0 4 s.left))
 

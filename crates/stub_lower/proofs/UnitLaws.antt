@@ -4,7 +4,7 @@ use Rattle.std.specs.Prelude.{nat_eq}
 use Rattle.std.proofs.lemmas.Bool.{eqb-true}
 use Rattle.std.proofs.Math.Nat.{suc-mul}
 use Rattle.mint.specs.declared.kind.Kind.TheVariants as kind
-use Rattle.mint.specs.Types.{Scalar, number, label}
+use Rattle.mint.specs.Types.{Scalar, number}
 use Rattle.wire_def.specs.Lone.{units_of}
 use Rattle.wire_def.specs.Described.{is_whole, elements_in}
 use Rattle.wire_def.proofs.DescribedGrammar.{whole_of, elements_of}
@@ -17,18 +17,9 @@ pub data Units (s : Scalar) : Type 0 where
   twice : units_of s ≡ 2 → ((k : ℕ) → is_whole s k ≡ nat_eq (k % 2) 0) → ((k : ℕ) → elements_in s k ≡ k / 2) → Units s
 
 pub units : (s : Scalar) → Units s
-units (label ls) = single refl (λ (k : ℕ). refl) (λ (k : ℕ). refl)
-units (number kind.Octet) = single refl (λ (k : ℕ). refl) (λ (k : ℕ). refl)
-units (number kind.I8) = single refl (λ (k : ℕ). refl) (λ (k : ℕ). refl)
-units (number kind.U8) = single refl (λ (k : ℕ). refl) (λ (k : ℕ). refl)
-units (number kind.Char) = single refl (λ (k : ℕ). refl) (λ (k : ℕ). refl)
-units (number kind.I16) = single refl (λ (k : ℕ). refl) (λ (k : ℕ). refl)
-units (number kind.U16) = single refl (λ (k : ℕ). refl) (λ (k : ℕ). refl)
-units (number kind.I32) = single refl (λ (k : ℕ). refl) (λ (k : ℕ). refl)
-units (number kind.U32) = single refl (λ (k : ℕ). refl) (λ (k : ℕ). refl)
 units (number kind.I64) = twice refl (λ (k : ℕ). refl) (λ (k : ℕ). refl)
 units (number kind.U64) = twice refl (λ (k : ℕ). refl) (λ (k : ℕ). refl)
-units (number kind.Bool) = single refl (λ (k : ℕ). refl) (λ (k : ℕ). refl)
+units _ = single refl (λ (k : ℕ). refl) (λ (k : ℕ). refl)
 
 -- as many elements again
 pub elements_back : (s : Scalar) (k m : ℕ) → is_whole s k ≡ true → elements_in s k ≡ m → k ≡ m * units_of s
