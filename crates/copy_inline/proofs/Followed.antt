@@ -5,8 +5,8 @@ use Rattle.mint.specs.declared.kind.Count.{Count}
 use Rattle.mint.specs.declared.kind.Count.TheVariants.{Exactly, AtMost, Any}
 use Rattle.mint.specs.Types.{Array, Ty, void_type, scalar_type, array_type, group_type, items_type, choice_type, maybe_type, Tys, no_fields, field, Arms, no_other, others, arm_type}
 use Rattle.mint.specs.Blank.{depth, fields_depth, arms_depth}
-use Rattle.cast_stub.specs.Block.{Block, stop, ensure, ensure_row, align, chunk, row_copy, row_swap, row_wide, each, switch, if_there, call, patch, Cases}
-use Rattle.cast_stub.specs.Append.{append, rebase, put_rebased}
+use Rattle.cast_stub.specs.Block.{Block, stop, align, chunk, each, switch, if_there, call, Cases}
+use Rattle.cast_stub.specs.Append.{rebase, put_rebased}
 use Rattle.cast_stub.specs.Subs.{no_subs}
 use Rattle.cast_stub.specs.Follows.{flat, IsFlat, IsLoop, IsCount, Child, Loops, FollowsBy, FieldsFollowBy, ArmsFollowBy}
 use Rattle.cast_stub.specs.Turned.{Layout, IsTurned}
@@ -18,19 +18,9 @@ use Rattle.copy_inline.proofs.Blocks.{rebase-append, spliced-append}
 -- ---- chunks and aligns
 
 flat-rebase : (q : List ℕ) (b : Block) → flat (rebase q b) ≡ flat b
-flat-rebase q stop = refl
 flat-rebase q (chunk s ps r) = rw (length-map ps (put_rebased q), flat-rebase q r) refl
 flat-rebase q (align a r) = ap (option_map suc) (flat-rebase q r)
-flat-rebase q (ensure n r) = refl
-flat-rebase q (ensure_row p u e r) = refl
-flat-rebase q (row_copy p r) = refl
-flat-rebase q (row_swap p r) = refl
-flat-rebase q (row_wide p o r) = refl
-flat-rebase q (each p b r) = refl
-flat-rebase q (switch p cs r) = refl
-flat-rebase q (if_there p b r) = refl
-flat-rebase q (call k p r) = refl
-flat-rebase q (patch a s o r) = refl
+flat-rebase q _ = refl
 
 spliced-flat : (code : ℕ → Block) (b : Block) (n : ℕ) → flat b ≡ Some n → spliced code b ≡ b
 spliced-flat code stop n e = refl
@@ -164,52 +154,34 @@ module _ (L : Loops) (kept : AreKept L) where
 
 -- ---- loops
 
-whole : (code : ℕ → Block) (p : List ℕ) (before turn after b : Block) (k l m : ℕ) → b ≡ append before (each p turn after)
-    → flat before ≡ Some k → flat turn ≡ Some l → flat after ≡ Some m
-    → spliced code b ≡ b
-whole code p before turn after b k l m is x y z =
-    ap (spliced code) is ∙ spliced-append code before (each p turn after)
-    ∙ rw (spliced-flat code before k x, spliced-flat code turn l y, spliced-flat code after m z) (sym is)
+-- the loop of one whose turn may be one number
+abbrev loop_of : (layout : Layout) (a : Array) (p : List ℕ) (b : Block) → IsTurned layout a p b → IsLoop p b
+loop_of layout a p b h = (h.0, h.1, h.2, h.3, h.4, h.5, h.6, h.7, h.8, h.9, h.10, h.11)
+
+moved_loop : (q p : List ℕ) (b : Block) → IsLoop p b → IsLoop (q ++ p) (rebase q b)
+moved_loop q p b h =
+    let whole = ap (rebase q) h.6 ∙ rebase-append q h.0 (each p h.1 h.2) in
+    let first = flat-rebase q h.0 ∙ h.7 in
+    let last = flat-rebase q h.2 ∙ h.9 in
+    (rebase q h.0, h.1, rebase q h.2, h.3, h.4, h.5, whole, first, h.8, last, h.10, h.11)
+
+-- a loop holds no call
+same_loop : (code : ℕ → Block) (p : List ℕ) (b : Block) → IsLoop p b → spliced code b ≡ b
+same_loop code p b h =
+    ap (spliced code) h.6 ∙ spliced-append code h.0 (each p h.1 h.2)
+    ∙ rw (spliced-flat code h.0 h.3 h.7, spliced-flat code h.1 h.4 h.8, spliced-flat code h.2 h.5 h.9) (sym h.6)
 
 pub loops_kept : AreKept (λ a. IsLoop)
-loops_kept = record { rebased = moved; spliced_too = same } where
-  moved : (a : Array) (q p : List ℕ) (b : Block) → IsLoop p b → IsLoop (q ++ p) (rebase q b)
-  moved a q p b h = (
-    rebase q h.0,
-    h.1,
-    rebase q h.2,
-    h.3,
-    h.4,
-    h.5,
-    ap (rebase q) h.6 ∙ rebase-append q h.0 (each p h.1 h.2),
-    flat-rebase q h.0 ∙ h.7,
-    h.8,
-    flat-rebase q h.2 ∙ h.9,
-    h.10,
-    h.11,
-  )
-
-  same : (code : ℕ → Block) (a : Array) (p : List ℕ) (b : Block) → IsLoop p b → IsLoop p (spliced code b)
-  same code a p b h = subst (IsLoop p) (sym (whole code p h.0 h.1 h.2 b h.3 h.4 h.5 h.6 h.7 h.8 h.9)) h
+loops_kept =
+    record { rebased = λ a q p b h. moved_loop q p b h; spliced_too = λ code a p b h. subst (IsLoop p) (sym (same_loop code p b h)) h }
 
 pub turns_kept : (layout : Layout) → AreKept (IsTurned layout)
+unfolding moved_loop
 turns_kept layout = record { rebased = moved; spliced_too = same } where
   moved : (a : Array) (q p : List ℕ) (b : Block) → IsTurned layout a p b → IsTurned layout a (q ++ p) (rebase q b)
-  moved a q p b h = (
-    rebase q h.0,
-    h.1,
-    rebase q h.2,
-    h.3,
-    h.4,
-    h.5,
-    ap (rebase q) h.6 ∙ rebase-append q h.0 (each p h.1 h.2),
-    flat-rebase q h.0 ∙ h.7,
-    h.8,
-    flat-rebase q h.2 ∙ h.9,
-    h.10,
-    h.11,
-    h.12,
-  )
+  moved a q p b h =
+      let m = moved_loop q p b (loop_of layout a p b h) in
+      (m.0, m.1, m.2, m.3, m.4, m.5, m.6, m.7, m.8, m.9, m.10, m.11, h.12)
 
   same : (code : ℕ → Block) (a : Array) (p : List ℕ) (b : Block) → IsTurned layout a p b → IsTurned layout a p (spliced code b)
-  same code a p b h = subst (IsTurned layout a p) (sym (whole code p h.0 h.1 h.2 b h.3 h.4 h.5 h.6 h.7 h.8 h.9)) h
+  same code a p b h = subst (IsTurned layout a p) (sym (same_loop code p b (loop_of layout a p b h))) h

@@ -7,7 +7,7 @@ use Rattle.mint.specs.Types.{Array, Ty, void_type, scalar_type, array_type, grou
 use Rattle.mint.specs.Blank.{depth, fields_depth, arms_depth}
 use Rattle.cast_stub.specs.declared.recv.Get.{Get}
 use Rattle.cast_stub.specs.declared.recv.Get.TheVariants as get
-use Rattle.cast_stub.specs.RecvBlock.{Recv, finish, need, need_row, skip_any, skip_zero, pass, desc, row_block, row_wide, each, switch, if_there, call, Cases}
+use Rattle.cast_stub.specs.RecvBlock.{Recv, finish, need, skip_any, skip_zero, pass, desc, each, switch, if_there, call, Cases}
 use Rattle.cast_stub.specs.RecvAppend.{rebase, get_rebased}
 use Rattle.cast_stub.specs.Got.{no_subs}
 use Rattle.cast_stub.specs.Traces.{descs, IsGetAt, AreGetsAt, IsAt, IsFlat, IsLoop, IsCount, Going, Child, Loops, TracesBy, FieldsTraceBy, ArmsTraceBy, IsTurned}
@@ -20,19 +20,12 @@ use Rattle.copy_inline.proofs.RecvBlocks.{rebase-append, spliced-append}
 -- ---- tests, skips and takes
 
 descs-rebase : (q : List ℕ) (b : Recv) → descs (rebase q b) ≡ descs b
-descs-rebase q finish = refl
 descs-rebase q (need n r) = descs-rebase q r
 descs-rebase q (skip_any a r) = descs-rebase q r
 descs-rebase q (skip_zero a r) = descs-rebase q r
 descs-rebase q (pass n gs r) = descs-rebase q r
 descs-rebase q (desc p name size mul r) = ap (option_map suc) (descs-rebase q r)
-descs-rebase q (need_row p u e r) = refl
-descs-rebase q (row_block p o r) = refl
-descs-rebase q (row_wide p o r) = refl
-descs-rebase q (each p b r) = refl
-descs-rebase q (switch p cs r) = refl
-descs-rebase q (if_there p b r) = refl
-descs-rebase q (call k p r) = refl
+descs-rebase q _ = refl
 
 spliced-flat : (code : ℕ → Recv) (b : Recv) (n : ℕ) → descs b ≡ Some n → spliced code b ≡ b
 spliced-flat code finish n e = refl
@@ -45,30 +38,20 @@ spliced-flat code _ n e = absurd cc
 
 -- gets of the value at a path are gets of the part
 get_at_rebased : (q p : List ℕ) (g : Get) → IsGetAt p g → IsGetAt (q ++ p) (get_rebased q g)
-get_at_rebased q p (get.Num off r w o) h = ap (λ (x : List ℕ). q ++ x) h
-get_at_rebased q p (get.Tag off r w o) h = ap (λ (x : List ℕ). q ++ x) h
-get_at_rebased q p (get.Flag off r w o) h = ap (λ (x : List ℕ). q ++ x) h
-get_at_rebased q p (get.Count off r mul add w o) h = ap (λ (x : List ℕ). q ++ x) h
 get_at_rebased q p (get.Const off os) h = tt
+get_at_rebased q p _ h = ap (λ (x : List ℕ). q ++ x) h
 
 gets_at_rebased : (q p : List ℕ) (gs : List Get) → AreGetsAt p gs → AreGetsAt (q ++ p) (map (get_rebased q) gs)
 gets_at_rebased q p [] h = tt
 gets_at_rebased q p (g ∷ gs) h = (get_at_rebased q p g h.0, gets_at_rebased q p gs h.1)
 
 at_rebased : (q p : List ℕ) (b : Recv) → IsAt p b → IsAt (q ++ p) (rebase q b)
-at_rebased q p finish h = tt
 at_rebased q p (need n r) h = at_rebased q p r h
 at_rebased q p (skip_any a r) h = at_rebased q p r h
 at_rebased q p (skip_zero a r) h = at_rebased q p r h
 at_rebased q p (pass n gs r) h = (gets_at_rebased q p gs h.0, at_rebased q p r h.1)
 at_rebased q p (desc r name size mul b) h = (ap (λ (x : List ℕ). q ++ x) h.0, at_rebased q p b h.1)
-at_rebased q p (need_row r u e b) h = tt
-at_rebased q p (row_block r o b) h = tt
-at_rebased q p (row_wide r o b) h = tt
-at_rebased q p (each r b c) h = tt
-at_rebased q p (switch r cs b) h = tt
-at_rebased q p (if_there r b c) h = tt
-at_rebased q p (call k r b) h = tt
+at_rebased q p _ h = tt
 
 flat_rebased : (q p : List ℕ) (b : Recv) → IsFlat p b → IsFlat (q ++ p) (rebase q b)
 flat_rebased q p b h = (descs-rebase q b ∙ h.0, at_rebased q p b h.1)

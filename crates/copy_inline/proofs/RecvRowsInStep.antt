@@ -3,7 +3,7 @@ use Rattle.wire_def.specs.declared.encoding.Encoding.{Encoding}
 use Rattle.std.proofs.Common.{◌≡◌, ℕ, ℤ, List, [], ◌∷◌, Option, Some, None, ap, ◌∙◌}
 use Rattle.mint.specs.Types.{Ty, at, arms_at, others_at}
 use Rattle.cast_stub.specs.declared.recv.RecvOp.{RecvOp}
-use Rattle.cast_stub.specs.RecvBlock.{Recv, finish, need, need_row, skip_any, skip_zero, pass, desc, row_block, row_wide, each, switch, if_there, call, case, code_seen, cases_seen}
+use Rattle.cast_stub.specs.RecvBlock.{Recv, finish, need, skip_any, skip_zero, pass, desc, each, switch, if_there, case, code_seen, cases_seen}
 use Rattle.cast_stub.specs.RecvAppend.{append}
 use Rattle.copy_inline.specs.RecvReady.{IsReady, CasesReady}
 use Rattle.copy_inline.specs.RecvRowBodies.{AreRowed, ArmsReady}
@@ -43,14 +43,11 @@ module _ (enc : Encoding) (us : List Ty) where
 pub both-ready : (enc : Encoding) (t : Ty) (a b : Recv) → IsReady enc t (append a b) → IsReady enc t a × IsReady enc t b
 both-ready enc t finish b h = (tt, h)
 both-ready enc t (need n r) b h = both-ready enc t r b h
-both-ready enc t (need_row p u x r) b h = absurd h
 both-ready enc t (skip_any a r) b h = both-ready enc t r b h
 both-ready enc t (skip_zero a r) b h = both-ready enc t r b h
 both-ready enc t (pass n gs r) b h = both-ready enc t r b h
 both-ready enc t (desc p name size mul r) b h = both-ready enc t r b h
-both-ready enc t (row_block p o r) b h = absurd h
-both-ready enc t (row_wide p o r) b h = absurd h
-both-ready enc t (call k p r) b h = absurd h
 both-ready enc t (each p c r) b h = let k = both-ready enc t r b h.1 in ((h.0, k.0), k.1)
 both-ready enc t (if_there p c r) b h = let k = both-ready enc t r b h.1 in ((h.0, k.0), k.1)
 both-ready enc t (switch p cs r) b h = let k = both-ready enc t r b h.1 in ((h.0, k.0), k.1)
+both-ready enc t _ b h = absurd h

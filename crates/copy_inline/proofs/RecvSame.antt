@@ -1,8 +1,8 @@
 -- Code whose calls are replaced gives the same, by induction on the depth of calls and the code.
 use Rattle.std.proofs.Common.{◌≡◌, ℕ, zero, suc, ◌+◌, ◌*◌, ℤ, List, [], ◌∷◌, Option, Some, None, refl, sym, ap, subst, ◌∙◌, Bool, true, false, if◌then◌else◌}
 use Rattle.std.specs.Ordering.{int_eq}
-use Rattle.mint.specs.Types.{Ty, array_type, items_type, scalar_type, group_type, choice_type, maybe_type, void_type, Array}
-use Rattle.mint.specs.Values.{Val, num_in, num, row, group, void, items, arm, present, absent, vals_of}
+use Rattle.mint.specs.Types.{Ty, array_type, items_type, Array}
+use Rattle.mint.specs.Values.{Val, num_in, row, items, arm, present, absent, vals_of}
 use Rattle.wire_def.specs.Arrays.{kind_of, count_of}
 use Rattle.mint.specs.Blank.{least}
 use Rattle.cast_stub.specs.RecvBlock.{Recv, finish, need, need_row, skip_any, skip_zero, pass, desc, row_block, row_wide, each, switch, if_there, call, Cases, no_default, default, case}
@@ -61,13 +61,7 @@ below_within : (p : List ℕ) (f g : Filler) → AreBelow f g → AreBelow (with
 below_within [] f g h d s = h d s
 below_within (n ∷ p) f g h (fields ds) s = below_map fields (at_field n (within p f) ds s) (at_field n (within p g) ds s)
     (below_field (within p f) (within p g) (below_within p f g h) n ds s)
-below_within (n ∷ p) f g h (raw t) s = λ held. absurd held
-below_within (n ∷ p) f g h (digit a) s = λ held. absurd held
-below_within (n ∷ p) f g h (listed t m) s = λ held. absurd held
-below_within (n ∷ p) f g h (lined a m) s = λ held. absurd held
-below_within (n ∷ p) f g h (tagged m t) s = λ held. absurd held
-below_within (n ∷ p) f g h (flagged t) s = λ held. absurd held
-below_within (n ∷ p) f g h (done v) s = λ held. absurd held
+below_within (n ∷ p) f g h _ s = λ held. absurd held
 
 module _ (f g : Filler) (h : AreBelow f g) where
   below_items : (t : Ty) (n : ℕ) (s : Place) → Below (fill_items f t n s) (fill_items g t n s)
@@ -88,47 +82,20 @@ module _ (f g : Filler) (h : AreBelow f g) where
   below_each : AreBelow (fill_each f) (fill_each g)
   below_each (raw (items_type c t)) s = below_items t (least c) s
   below_each (raw (array_type a)) s = below_row a (least (count_of a)) s
-  below_each (raw void_type) s = λ held. absurd held
-  below_each (raw (scalar_type t)) s = λ held. absurd held
-  below_each (raw (group_type ts)) s = λ held. absurd held
-  below_each (raw (choice_type t a)) s = λ held. absurd held
-  below_each (raw (maybe_type t)) s = λ held. absurd held
   below_each (listed t n) s = below_items t n s
   below_each (lined a n) s = below_row a n s
-  below_each (digit a) s = λ held. absurd held
-  below_each (tagged m t) s = λ held. absurd held
-  below_each (flagged t) s = λ held. absurd held
-  below_each (done v) s = λ held. absurd held
-  below_each (fields ds) s = λ held. absurd held
+  below_each _ s = λ held. absurd held
 
   below_present : AreBelow (fill_present f) (fill_present g)
   below_present (flagged t) s = below_map (λ v. done (present v)) (settled (f (fresh t) s)) (settled (g (fresh t) s))
       (below_settled (f (fresh t) s) (g (fresh t) s) (h (fresh t) s))
   below_present (done absent) s = same_below (gives (done absent) s)
-  below_present (done void) s = λ held. absurd held
-  below_present (done (num n)) s = λ held. absurd held
-  below_present (done (row k ns)) s = λ held. absurd held
-  below_present (done (group vs)) s = λ held. absurd held
-  below_present (done (items vs)) s = λ held. absurd held
-  below_present (done (arm n v)) s = λ held. absurd held
-  below_present (done (present v)) s = λ held. absurd held
-  below_present (raw t) s = λ held. absurd held
-  below_present (digit a) s = λ held. absurd held
-  below_present (listed t n) s = λ held. absurd held
-  below_present (lined a n) s = λ held. absurd held
-  below_present (tagged m t) s = λ held. absurd held
-  below_present (fields ds) s = λ held. absurd held
+  below_present _ s = λ held. absurd held
 
 below_arm : (f g : ℤ → Filler) → ((n : ℤ) → AreBelow (f n) (g n)) → AreBelow (fill_arm f) (fill_arm g)
 below_arm f g h (tagged n t) s = below_map (λ v. done (arm n v)) (settled (f n (fresh t) s)) (settled (g n (fresh t) s))
     (below_settled (f n (fresh t) s) (g n (fresh t) s) (h n (fresh t) s))
-below_arm f g h (raw t) s = λ held. absurd held
-below_arm f g h (digit a) s = λ held. absurd held
-below_arm f g h (listed t n) s = λ held. absurd held
-below_arm f g h (lined a n) s = λ held. absurd held
-below_arm f g h (flagged t) s = λ held. absurd held
-below_arm f g h (done v) s = λ held. absurd held
-below_arm f g h (fields ds) s = λ held. absurd held
+below_arm f g h _ s = λ held. absurd held
 
 below_if : (b : Bool) (x x' y y' : Run Draft) → Below x x' → Below y y' → Below (if b then x else y) (if b then x' else y')
 below_if true x x' y y' h k = h

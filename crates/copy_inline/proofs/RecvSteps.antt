@@ -11,7 +11,7 @@ use Rattle.mint.specs.Values.{Val, row, items, arm, absent, present, vals_of}
 use Rattle.wire_def.specs.declared.encoding.Encoding.{Encoding}
 use Rattle.wire_def.specs.declared.head.Order.{Order}
 use Rattle.wire_def.specs.Arrays.{count_of, kind_of}
-use Rattle.cast_stub.specs.Layouts.{order_of, element_width}
+use Rattle.cast_stub.specs.Layouts.{order_of, element_width, layout_of}
 use Rattle.cast_stub.specs.Parts.{on_some}
 use Rattle.cast_stub.specs.PartTypes.{field_type, in_group_type, ty_at, present_type, present_at, arms_type, arms_at}
 use Rattle.cast_stub.specs.PutPart.{put_part}
@@ -314,41 +314,42 @@ module _ (e : Encoding) (c : Callees) where
     none (Some n) g = let g' : suc n ≡ 0 = cc in omega (arith, g')
   turn_even _ f d s m = absurd cc
 
+  -- a loop each of whose turns is a number, and the test and the row
+  row_both : (into : Filler) (a : Array) (p : List ℕ) (b r r' : Recv) (t : Ty) → ty_at p t ≡ Some (array_type a)
+      → b ≡ number_turn (element_width e a) (order_of e)
+      → ((x : Draft) (s : Place) (m : ℕ) → IsDraft (array_type a) x
+      → EndsAlike (fill_each (fill c (number_turn (element_width e a) (order_of e))) x s) (tested into (element_width e a) x (timed m s)))
+      → Fills t (fill c r) (fill c r')
+      → Fills t (fill c (each p b r)) (λ d s. then_run (if_some (part p d) (λ x. if_some (length_in x)
+      (λ n. needed (n * element_width e a + 0) d s))) (λ y u. then_run (within p into y u) (fill c r')))
+  row_both into a p b r r' t is body alike rest d s m h =
+      let loop : EndsAlike (within p (fill_each (fill c b)) d s) (tested_at into (element_width e a) p d (timed m s)) =
+      subst (λ (y : Recv). EndsAlike (within p (fill_each (fill c y)) d s) (tested_at into (element_width e a) p d (timed m s))) (sym body)
+      (at_alike (fill_each (fill c (number_turn (element_width e a) (order_of e)))) into (element_width e a) p t (array_type a) d s m is h
+      alike) in
+      subst (Both t (then_run (within p (fill_each (fill c b)) d s) (fill c r)))
+      (then_assoc (if_some (part p d) (λ x. if_some (length_in x) (λ n. needed (n * element_width e a + 0) d (timed m s))))
+      (λ y u. within p into y u) (fill c r'))
+      (then_both t (within p (fill_each (fill c b)) d s) (tested_at into (element_width e a) p d (timed m s)) (fill c r) (fill c r')
+      (within_keeps p t (fill_each (fill c b)) (λ u e' x v k. each_given (fill c b) u x v) d s h, loop) rest)
+
+  -- the turn of a loop over an array of a layout
+  turn_is : (a : Array) (b : Recv) (w : ℕ) → IsTurn e a b → layout_of e a ≡ Some (w, order_of e) → element_width e a ≡ w
+      → b ≡ number_turn (element_width e a) (order_of e)
+  turn_is a b w turn laid wide =
+      subst (λ (l : Option (ℕ × Order)). IsNumber l b) (laid ∙ ap (λ (n : ℕ). Some (n, order_of e)) (sym wide)) turn.0
+
   array_both : (k : Sort) (a : Array) (p : List ℕ) (b r r' : Recv) (t : Ty) → sort_of e a ≡ k → ty_at p t ≡ Some (array_type a)
       → IsTurn e a b → Fills t (fill c r) (fill c r')
       → Fills t (fill c (each p b r)) (fill c (row_or_loop k (element_width e a) (order_of e) p b r'))
   array_both sort.Block a p b r r' t of is turn rest d s m h =
       let lay = block_layout e a of in
-      let body : b ≡ number_turn (element_width e a) (order_of e) =
-      subst (λ (l : Option (ℕ × Order)). IsNumber l b) (lay.0 ∙ ap (λ (n : ℕ). Some (n, order_of e)) (sym lay.1)) turn.0 in
-      let loop : EndsAlike (within p (fill_each (fill c b)) d s) (tested_at (row_into (order_of e)) (element_width e a) p d (timed m s)) =
-      subst (λ (y : Recv). EndsAlike (within p (fill_each (fill c y)) d s)
-      (tested_at (row_into (order_of e)) (element_width e a) p d (timed m s))) (sym body)
-      (at_alike (fill_each (fill c (number_turn (element_width e a) (order_of e)))) (row_into (order_of e)) (element_width e a) p t
-      (array_type a) d s m is h
-      (block_alike c (element_width e a) (order_of e) a (element_wide e a) lay.1)) in
-      subst (Both t (then_run (within p (fill_each (fill c b)) d s) (fill c r)))
-      (then_assoc (if_some (part p d) (λ x. if_some (length_in x) (λ n. needed (n * element_width e a + 0) d (timed m s))))
-      (λ y u. within p (row_into (order_of e)) y u) (fill c r'))
-      (then_both t (within p (fill_each (fill c b)) d s) (tested_at (row_into (order_of e)) (element_width e a) p d (timed m s)) (fill c r)
-      (fill c r')
-      (within_keeps p t (fill_each (fill c b)) (λ u e' x v k. each_given (fill c b) u x v) d s h, loop) rest)
+      row_both (row_into (order_of e)) a p b r r' t is (turn_is a b (width (kind_of a)) turn lay.0 lay.1)
+      (block_alike c (element_width e a) (order_of e) a (element_wide e a) lay.1) rest d s m h
   array_both sort.Wide a p b r r' t of is turn rest d s m h =
       let lay = wide_layout e a of in
-      let body : b ≡ number_turn (element_width e a) (order_of e) =
-      subst (λ (l : Option (ℕ × Order)). IsNumber l b) (lay.0 ∙ ap (λ (n : ℕ). Some (n, order_of e)) (sym lay.1)) turn.0 in
-      let loop : EndsAlike (within p (fill_each (fill c b)) d s) (tested_at (wide_into (order_of e)) (element_width e a) p d (timed m s)) =
-      subst (λ (y : Recv). EndsAlike (within p (fill_each (fill c y)) d s)
-      (tested_at (wide_into (order_of e)) (element_width e a) p d (timed m s))) (sym body)
-      (at_alike (fill_each (fill c (number_turn (element_width e a) (order_of e)))) (wide_into (order_of e)) (element_width e a) p t
-      (array_type a) d s m is h
-      (wide_alike c (element_width e a) (order_of e) a (element_wide e a) lay.1)) in
-      subst (Both t (then_run (within p (fill_each (fill c b)) d s) (fill c r)))
-      (then_assoc (if_some (part p d) (λ x. if_some (length_in x) (λ n. needed (n * element_width e a + 0) d (timed m s))))
-      (λ y u. within p (wide_into (order_of e)) y u) (fill c r'))
-      (then_both t (within p (fill_each (fill c b)) d s) (tested_at (wide_into (order_of e)) (element_width e a) p d (timed m s)) (fill c r)
-      (fill c r')
-      (within_keeps p t (fill_each (fill c b)) (λ u e' x v k. each_given (fill c b) u x v) d s h, loop) rest)
+      row_both (wide_into (order_of e)) a p b r r' t is (turn_is a b 4 turn lay.0 lay.1)
+      (wide_alike c (element_width e a) (order_of e) a (element_wide e a) lay.1) rest d s m h
   array_both sort.Looped a p b r r' t of is turn rest d s m h =
       then_both t (within p (fill_each (fill c b)) d s) (within p (fill_each (fill c b)) d (timed m s)) (fill c r) (fill c r')
       (within_both p t (array_type a) (fill_each (fill c b)) (fill_each (fill c b)) is (lines_both (fill c b) a (turn_even b turn.1)) d s m

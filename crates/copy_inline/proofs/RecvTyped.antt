@@ -3,7 +3,7 @@ use Rattle.std.proofs.Common.{◌≡◌, ℕ, zero, suc, ◌+◌, ℤ, pos, negs
 use Rattle.std.specs.Prelude.{nat_eq, nat_le, nat_lt, ◌&&◌, ◌/◌, ◌%◌, ◌^◌}
 use Rattle.std.specs.Int.{Width, w16, w32}
 use Rattle.mint.specs.declared.kind.Count.{Count}
-use Rattle.mint.specs.Types.{Scalar, Ty, void_type, scalar_type, array_type, group_type, items_type, choice_type, maybe_type, Tys, no_fields, field, Arms}
+use Rattle.mint.specs.Types.{Scalar, Ty, scalar_type, array_type, group_type, items_type, choice_type, maybe_type, Tys, no_fields, field, Arms}
 use Rattle.mint.specs.Typed.{is_scalar}
 use Rattle.mint.specs.Values.{num}
 use Rattle.wire_def.specs.declared.head.Order.{Order}
@@ -42,12 +42,7 @@ abbrev mutual
 mutual
   pub fresh_is : (t : Ty) → IsDraft t (fresh t)
   fresh_is (group_type ts) = (ts, refl, all_fresh_are ts)
-  fresh_is void_type = refl
-  fresh_is (scalar_type s) = refl
-  fresh_is (array_type a) = refl
-  fresh_is (items_type c t) = refl
-  fresh_is (choice_type s arms) = refl
-  fresh_is (maybe_type t) = refl
+  fresh_is _ = refl
 
   all_fresh_are : (ts : Tys) → AreDrafts ts (all_fresh ts)
   all_fresh_are no_fields = tt

@@ -118,18 +118,13 @@ module _ (e : Encoding) where
 mutual
   pub bare_same : (b : Block) → IsBare b → unensured b ≡ b
   bare_same stop h = refl
-  bare_same (ensure n r) h = absurd h
-  bare_same (ensure_row p u x r) h = absurd h
   bare_same (align a r) h = ap (align a) (bare_same r h)
   bare_same (chunk s ps r) h = ap (chunk s ps) (bare_same r h)
-  bare_same (row_copy p r) h = absurd h
-  bare_same (row_swap p r) h = absurd h
-  bare_same (row_wide p o r) h = absurd h
   bare_same (each p b r) h = ap (λ (x : Block). each p x (unensured r)) (bare_same b h.0) ∙ ap (each p b) (bare_same r h.1)
   bare_same (switch p cs r) h = ap (λ (x : Cases). switch p x (unensured r)) (cases_same cs h.0) ∙ ap (switch p cs) (bare_same r h.1)
   bare_same (if_there p b r) h = ap (λ (x : Block). if_there p x (unensured r)) (bare_same b h.0) ∙ ap (if_there p b) (bare_same r h.1)
-  bare_same (call k p r) h = absurd h
   bare_same (patch a s o r) h = ap (patch a s o) (bare_same r h)
+  bare_same _ h = absurd h
 
   cases_same : (cs : Cases) → CasesBare cs → cases_unensured cs ≡ cs
   cases_same no_default h = refl

@@ -21,7 +21,7 @@ use Rattle.cast_stub.specs.Puts.{filled}
 use Rattle.cast_stub.specs.Block.{Block, stop, ensure, ensure_row, align, chunk, row_copy, row_swap, row_wide, each, switch, if_there, call, patch, Cases, no_default, default, case}
 use Rattle.cast_stub.specs.Layouts.{order_of, layout_of}
 use Rattle.cast_stub.specs.PartTypes.{ty_at, present_type, present_at, arms_type, arms_at}
-use Rattle.cast_stub.specs.Steps.{Room, Pad, Stored, Widened, Copied, Patched, Steps, is_width, chunk_steps, align_steps, row_room, swapped, wide, Calls, over, if_present, steps, case_steps}
+use Rattle.cast_stub.specs.Steps.{Room, Pad, Stored, Widened, Copied, Patched, Steps, is_width, chunk_steps, align_steps, row_room, swapped, wide, Calls, over, if_present, steps, case_steps, both}
 use Rattle.cast_stub.specs.Follows.{flat}
 use Rattle.cast_stub.specs.Turned.{IsNumber}
 use Rattle.cast_stub.proofs.Followed.{mapped}
@@ -67,35 +67,36 @@ module _ (e : Encoding) (c : Calls) (h : Head) (a : Array) where
   abbrev Turns : ℕ → Vals → Steps
   Turns w vs = over (steps c h (chunk w (put.Num 0 [] w (order_of e) ∷ []) stop)) vs
 
+  -- numbers whose pieces together are the octets of a block
+  as_block : (image : Kind → List ℤ → List ℕ) (o : Order) (k : Kind) (ns : List ℤ) → k ≡ kind_of a
+      → pieces (width (kind_of a)) (order_of e) ns ≡ pieces (width (kind_of a)) o ns
+      → option_map together (pieces (width (kind_of a)) o ns) ≡ Some (image (kind_of a) ns)
+      → AreJoined (Turns (width (kind_of a)) (vals_of (map num ns))) (Some (Copied (image k ns) ∷ []))
+  as_block image o k ns is order whole =
+      let w : ℕ = width (kind_of a) in
+      let y = pieces w o ns in
+      let loop : Turns w (vals_of (map num ns)) ≡ option_map stores y =
+      loop_stores c h w (order_of e) ns (image_width a) ∙ ap (option_map stores) order in
+      let block : on_some (option_map together y) (λ os. Some (Copied os ∷ [])) ≡ Some (Copied (image k ns) ∷ []) =
+      ap (λ (x : Option (List ℕ)). on_some x (λ os. Some (Copied os ∷ []))) whole
+      ∙ ap (λ (j : Kind). Some (Copied (image j ns) ∷ [])) (sym is) in
+      subst (AreJoined (Turns w (vals_of (map num ns)))) block
+      (subst (λ (x : Steps). AreJoined x (on_some (option_map together y) (λ os. Some (Copied os ∷ [])))) (sym loop)
+      (joined_row y (λ os. Some (Copied os ∷ [])) joined_copied))
+
   copied : (k : Kind) (ns : List ℤ) → is_image (order_of e) (kind_of a) ≡ true → IsArray a k ns
       → AreJoined (Turns (width (kind_of a)) (vals_of (map num ns))) (Some (Copied (image_of k ns) ∷ []))
   copied k ns image is =
       let r = array_ranged a k ns is in
-      let w : ℕ = width (kind_of a) in
-      let y = pieces w Little ns in
-      let loop : Turns w (vals_of (map num ns)) ≡ option_map stores y =
-      loop_stores c h w (order_of e) ns (image_width a) ∙ ap (option_map stores) (image_order (order_of e) (kind_of a) ns image) in
-      let block : on_some (option_map together y) (λ os. Some (Copied os ∷ [])) ≡ Some (Copied (image_of k ns) ∷ []) =
-      ap (λ (x : Option (List ℕ)). on_some x (λ os. Some (Copied os ∷ []))) (image_pieces (kind_of a) ns r.1)
-      ∙ ap (λ (j : Kind). Some (Copied (image_of j ns) ∷ [])) (sym r.0) in
-      subst (AreJoined (Turns w (vals_of (map num ns)))) block
-      (subst (λ (x : Steps). AreJoined x (on_some (option_map together y) (λ os. Some (Copied os ∷ [])))) (sym loop)
-      (joined_row y (λ os. Some (Copied os ∷ [])) joined_copied))
+      as_block image_of Little k ns r.0 (image_order (order_of e) (kind_of a) ns image) (image_pieces (kind_of a) ns r.1)
 
   turned : (k : Kind) (ns : List ℤ) → is_image (order_of e) (kind_of a) ≡ false → IsArray a k ns
       → AreJoined (Turns (width (kind_of a)) (vals_of (map num ns))) (Some (Copied (swapped k ns) ∷ []))
   turned k ns image is =
       let r = array_ranged a k ns is in
-      let w : ℕ = width (kind_of a) in
-      let y = pieces w Big ns in
-      let loop : Turns w (vals_of (map num ns)) ≡ option_map stores y = loop_stores c h w (order_of e) ns (image_width a)
-      ∙ ap (λ (o : Order). option_map stores (pieces w o ns)) (other_order (order_of e) (kind_of a) image) in
-      let block : on_some (option_map together y) (λ os. Some (Copied os ∷ [])) ≡ Some (Copied (swapped k ns) ∷ []) =
-      ap (λ (x : Option (List ℕ)). on_some x (λ os. Some (Copied os ∷ []))) (swapped_pieces (kind_of a) ns r.1)
-      ∙ ap (λ (j : Kind). Some (Copied (swapped j ns) ∷ [])) (sym r.0) in
-      subst (AreJoined (Turns w (vals_of (map num ns)))) block
-      (subst (λ (x : Steps). AreJoined x (on_some (option_map together y) (λ os. Some (Copied os ∷ [])))) (sym loop)
-      (joined_row y (λ os. Some (Copied os ∷ [])) joined_copied))
+      as_block swapped Big k ns r.0
+      (ap (λ (o : Order). pieces (width (kind_of a)) o ns) (other_order (order_of e) (kind_of a) image))
+      (swapped_pieces (kind_of a) ns r.1)
 
   widened : (ns : List ℤ)
       → AreJoined (Turns 4 (vals_of (map num ns))) (on_some (wide (order_of e) ns) (λ os. Some (Widened os (length ns) ∷ [])))
@@ -112,6 +113,17 @@ module _ (e : Encoding) (c : Calls) (h : Head) (a : Array) where
       → b ≡ chunk x.0 (put.Num 0 [] x.0 x.1 ∷ []) stop
   turn_is b x is at = subst (λ (l : Option (ℕ × Order)). IsNumber l b) at is
 
+  -- a loop each of whose turns is a number, and the row
+  row_joined : (w : ℕ) (g : Kind × List ℤ → Steps) (p : List ℕ) (b r r' : Block) (v : Val)
+      → b ≡ chunk w (put.Num 0 [] w (order_of e) ∷ []) stop → ((u : Val) → at p v ≡ Some u → IsOf (array_type a) u)
+      → ((k : Kind) (ns : List ℤ) → IsArray a k ns → AreJoined (Turns w (vals_of (map num ns))) (g (k, ns)))
+      → AreJoined (steps c h r v) (steps c h r' v)
+      → AreJoined (steps c h (each p b r) v) (both (OnRow (at p v) g) (steps c h r' v))
+  row_joined w g p b r r' v is typed go rest =
+      joined_both (On (at p v) (over (steps c h b))) (OnRow (at p v) g) (steps c h r v) (steps c h r' v)
+      (subst (λ (x : Block). AreJoined (On (at p v) (over (steps c h x))) (OnRow (at p v) g)) (sym is)
+      (on_row (at p v) a (Turns w) g typed go)) rest
+
   -- the loop, or what replaces it
   array_joined : (s : Sort) (image : Bool) (p : List ℕ) (b r r' : Block) (v : Val) → sort_of e a ≡ s
       → is_image (order_of e) (kind_of a) ≡ image → IsTurn e a b → ((w : Val) → at p v ≡ Some w → IsOf (array_type a) w)
@@ -119,27 +131,14 @@ module _ (e : Encoding) (c : Calls) (h : Head) (a : Array) where
       (on_some (on_some (at p v) elements_in) (over (steps c h b))) → AreJoined (steps c h r v) (steps c h r' v)
       → AreJoined (steps c h (each p b r) v) (steps c h (row_or_loop s image (order_of e) p b r') v)
   array_joined sort.Block true p b r r' v is image turn typed same rest =
-      joined_both (On (at p v) (over (steps c h b))) (OnRow (at p v) (λ x. Some (Copied (image_of x.0 x.1) ∷ []))) (steps c h r v)
-      (steps c h r' v)
-      (subst (λ (x : Block). AreJoined (On (at p v) (over (steps c h x))) (OnRow (at p v) (λ x. Some (Copied (image_of x.0 x.1) ∷ []))))
-      (sym (turn_is b (width (kind_of a), order_of e) turn.0 (block_layout e a is).0))
-      (on_row (at p v) a (Turns (width (kind_of a))) (λ x. Some (Copied (image_of x.0 x.1) ∷ [])) typed (λ k ns of. copied k ns image of)))
-      rest
+      row_joined (width (kind_of a)) (λ x. Some (Copied (image_of x.0 x.1) ∷ [])) p b r r' v
+      (turn_is b (width (kind_of a), order_of e) turn.0 (block_layout e a is).0) typed (λ k ns of. copied k ns image of) rest
   array_joined sort.Block false p b r r' v is image turn typed same rest =
-      joined_both (On (at p v) (over (steps c h b))) (OnRow (at p v) (λ x. Some (Copied (swapped x.0 x.1) ∷ []))) (steps c h r v)
-      (steps c h r' v)
-      (subst (λ (x : Block). AreJoined (On (at p v) (over (steps c h x))) (OnRow (at p v) (λ x. Some (Copied (swapped x.0 x.1) ∷ []))))
-      (sym (turn_is b (width (kind_of a), order_of e) turn.0 (block_layout e a is).0))
-      (on_row (at p v) a (Turns (width (kind_of a))) (λ x. Some (Copied (swapped x.0 x.1) ∷ [])) typed (λ k ns of. turned k ns image of)))
-      rest
+      row_joined (width (kind_of a)) (λ x. Some (Copied (swapped x.0 x.1) ∷ [])) p b r r' v
+      (turn_is b (width (kind_of a), order_of e) turn.0 (block_layout e a is).0) typed (λ k ns of. turned k ns image of) rest
   array_joined sort.Wide image p b r r' v is image' turn typed same rest =
-      joined_both (On (at p v) (over (steps c h b)))
-      (OnRow (at p v) (λ x. on_some (wide (order_of e) x.1) (λ os. Some (Widened os (length x.1) ∷ [])))) (steps c h r v) (steps c h r' v)
-      (subst (λ (x : Block). AreJoined (On (at p v) (over (steps c h x)))
-      (OnRow (at p v) (λ x. on_some (wide (order_of e) x.1) (λ os. Some (Widened os (length x.1) ∷ [])))))
-      (sym (turn_is b (4, order_of e) turn.0 (wide_layout e a is).0))
-      (on_row (at p v) a (Turns 4) (λ x. on_some (wide (order_of e) x.1) (λ os. Some (Widened os (length x.1) ∷ []))) typed
-      (λ k ns of. widened ns))) rest
+      row_joined 4 (λ x. on_some (wide (order_of e) x.1) (λ os. Some (Widened os (length x.1) ∷ []))) p b r r' v
+      (turn_is b (4, order_of e) turn.0 (wide_layout e a is).0) typed (λ k ns of. widened ns) rest
   array_joined sort.Looped image p b r r' v is image' turn typed same rest =
       joined_both (On (at p v) (over (steps c h b))) (On (at p v) (over (steps c h b))) (steps c h r v) (steps c h r' v) same rest
 

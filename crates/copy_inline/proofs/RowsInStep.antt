@@ -3,7 +3,7 @@ use Rattle.wire_def.specs.declared.encoding.Encoding.{Encoding}
 use Rattle.std.proofs.Common.{◌≡◌, ℕ, ℤ, List, [], ◌∷◌, Option, Some, None, ap, ◌∙◌}
 use Rattle.mint.specs.Types.{Ty, at, arms_at, others_at}
 use Rattle.cast_stub.specs.declared.send.SendOp.{SendOp}
-use Rattle.cast_stub.specs.Block.{Block, stop, ensure, ensure_row, align, chunk, row_copy, row_swap, row_wide, each, switch, if_there, call, patch, case, code_seen, cases_seen}
+use Rattle.cast_stub.specs.Block.{Block, stop, ensure, ensure_row, align, chunk, each, switch, if_there, patch, case, code_seen, cases_seen}
 use Rattle.cast_stub.specs.Append.{append}
 use Rattle.copy_inline.specs.Ready.{IsReady, CasesReady}
 use Rattle.copy_inline.specs.RowBodies.{AreRowed, ArmsReady}
@@ -44,13 +44,10 @@ pub both-ready : (enc : Encoding) (t : Ty) (a b : Block) → IsReady enc t (appe
 both-ready enc t stop b h = (tt, h)
 both-ready enc t (ensure n r) b h = both-ready enc t r b h
 both-ready enc t (ensure_row p u e r) b h = both-ready enc t r b h
-both-ready enc t (row_copy p r) b h = absurd h
-both-ready enc t (row_swap p r) b h = absurd h
-both-ready enc t (row_wide p o r) b h = absurd h
-both-ready enc t (call k p r) b h = absurd h
 both-ready enc t (align a r) b h = both-ready enc t r b h
 both-ready enc t (chunk s ps r) b h = both-ready enc t r b h
 both-ready enc t (patch a s o r) b h = both-ready enc t r b h
 both-ready enc t (each p c r) b h = let k = both-ready enc t r b h.1 in ((h.0, k.0), k.1)
 both-ready enc t (if_there p c r) b h = let k = both-ready enc t r b h.1 in ((h.0, k.0), k.1)
 both-ready enc t (switch p cs r) b h = let k = both-ready enc t r b h.1 in ((h.0, k.0), k.1)
+both-ready enc t _ b h = absurd h

@@ -37,43 +37,19 @@ element_wide e a = either_wide (is_octets a) (scalar_width e (number (kind_of a)
     (own_wide (width_of e (number (kind_of a))) (own_of e (number (kind_of a))))
 
 xdr_width : (k : Kind) → (scalar_width Xdr (number k) ≡ width k) ⊎ (scalar_width Xdr (number k) ≡ 4)
-xdr_width kind.Octet = inr refl
-xdr_width kind.I8 = inr refl
-xdr_width kind.U8 = inr refl
-xdr_width kind.Char = inr refl
-xdr_width kind.I16 = inr refl
-xdr_width kind.U16 = inr refl
 xdr_width kind.I32 = inl refl
 xdr_width kind.U32 = inl refl
 xdr_width kind.I64 = inl refl
 xdr_width kind.U64 = inl refl
-xdr_width kind.Bool = inr refl
+xdr_width _ = inr refl
 
 cdr_width : (k : Kind) → byte_len (own_width (number k)) ≡ width k
 cdr_width kind.Octet = refl
-cdr_width kind.I8 = refl
-cdr_width kind.U8 = refl
-cdr_width kind.Char = refl
-cdr_width kind.I16 = refl
-cdr_width kind.U16 = refl
-cdr_width kind.I32 = refl
-cdr_width kind.U32 = refl
-cdr_width kind.I64 = refl
-cdr_width kind.U64 = refl
-cdr_width kind.Bool = refl
+cdr_width _ = refl
 
 mach_width : (k : Kind) → (scalar_width Mach (number k) ≡ width k) ⊎ (scalar_width Mach (number k) ≡ 4)
-mach_width kind.Octet = inl refl
-mach_width kind.I8 = inl refl
-mach_width kind.U8 = inl refl
-mach_width kind.Char = inl refl
-mach_width kind.I16 = inl refl
-mach_width kind.U16 = inl refl
-mach_width kind.I32 = inl refl
-mach_width kind.U32 = inl refl
-mach_width kind.I64 = inl refl
-mach_width kind.U64 = inl refl
 mach_width kind.Bool = inr refl
+mach_width _ = inl refl
 
 number_width : (e : Encoding) (k : Kind) → (scalar_width e (number k) ≡ width k) ⊎ (scalar_width e (number k) ≡ 4)
 number_width Xdr k = xdr_width k
@@ -82,18 +58,13 @@ number_width CdrLittle k = inl (cdr_width k)
 number_width Mach k = mach_width k
 
 octets_wide : (a : Array) → is_octets a ≡ true → 1 ≡ width (kind_of a)
-octets_wide (text c) e = refl
-octets_wide (row_of kind.Octet c) e = refl
-octets_wide (row_of kind.I8 c) e = refl
-octets_wide (row_of kind.U8 c) e = refl
-octets_wide (row_of kind.Char c) e = refl
-octets_wide (row_of kind.Bool c) e = refl
 octets_wide (row_of kind.I16 c) e = absurd cc
 octets_wide (row_of kind.U16 c) e = absurd cc
 octets_wide (row_of kind.I32 c) e = absurd cc
 octets_wide (row_of kind.U32 c) e = absurd cc
 octets_wide (row_of kind.I64 c) e = absurd cc
 octets_wide (row_of kind.U64 c) e = absurd cc
+octets_wide _ e = refl
 
 element_either : (e : Encoding) (a : Array) → (element_width e a ≡ width (kind_of a)) ⊎ (element_width e a ≡ 4)
 element_either e a = by (is_octets a) refl where
