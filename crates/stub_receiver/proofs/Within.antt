@@ -1,5 +1,5 @@
 -- What is done to a part of a draft: it is taken out, changed and put back, by induction on the path to the part.
-use Rattle.std.proofs.Common.{◌≡◌, inl, inr, ℕ, zero, suc, ◌+◌, ◌-◌, ◌≤◌, List, [], ◌∷◌, length, take, drop, Option, None, Some, option_map, refl, sym, ap, subst, ◌∙◌, Bool, true, false, if◌then◌else◌, arith}
+use Rattle.std.proofs.Common.{◌≡◌, inl, inr, ℕ, ◌+◌, ◌-◌, ◌≤◌, List, [], ◌∷◌, length, take, drop, Option, None, Some, refl, sym, ap, subst, ◌∙◌, Bool, true, false, if◌then◌else◌, arith}
 use Rattle.std.specs.Prelude.{Err, nat_le, nat_eq, ◌&&◌}
 use Rattle.std.proofs.lemmas.Bool.{leb-true, le-leb, eqb-true, eq-eqb}
 use Rattle.std.specs.Int.{Width}
@@ -8,15 +8,16 @@ use Rattle.wire_def.specs.declared.head.Order.{Order}
 use Rattle.wire_def.specs.Orders.{IsWidth, width_in, width_as, loaded}
 use Rattle.raw_buf.specs.View.{loaded_of}
 use Rattle.cast_stub.specs.declared.recv.Get.{Get}
-use Rattle.cast_stub.specs.Parts.{IsThere, on_some}
-use Rattle.cast_stub.specs.Draft.{Draft, raw, digit, listed, lined, tagged, flagged, done, fields, Drafts, no_draft, draft}
-use Rattle.cast_stub.specs.Fill.{within, field_at, part, into, word_got, const_got}
+use Rattle.cast_stub.specs.Parts.{IsThere}
+use Rattle.cast_stub.specs.Draft.{Draft}
+use Rattle.cast_stub.specs.Fill.{within, part, into, word_got, const_got}
 use Rattle.cast_stub.specs.Into.{same_octets}
 use Rattle.cast_stub.specs.Runs.{Place, Run, gives, refuses, strays, Filler, then_run, if_some, if_passed}
 use Rattle.stub_receiver.specs.declared.errors.Halt.{Halt}
 use Rattle.stub_receiver.specs.declared.errors.Halt.TheVariants.{Refused, NoMemory}
-use Rattle.cast_stub.specs.PutPart.{put_part, put_field}
+use Rattle.cast_stub.specs.PutPart.{put_part}
 use Rattle.cast_stub.proofs.RecvParts.{replaced, within_is, no_part}
+use Rattle.cast_stub.proofs.RecvRebasing as rebasing
 use Rattle.stub_receiver.specs.Ran.{Ran, Gave, Tested}
 use Rattle.cast_stub.specs.Runs.{Holds}
 
@@ -36,66 +37,13 @@ within_holds f s p d x e h = first_holds (f x s) (replaced p d) (subst Holds (wi
 
 -- ---- a part that was put
 
-some_mapped : {A B : Type 0} (g : A → B) (o : Option A) (b : B) → option_map g o ≡ Some b → (a : A) × (o ≡ Some a) × (g a ≡ b)
-some_mapped g (Some a) b h =
-    let same : g a ≡ b = cc in
-    (a, refl, same)
-some_mapped g None b h = absurd cc
-
-field_put : (p : List ℕ) (y : Draft) → ((d e : Draft) → put_part p y d ≡ Some e → part p e ≡ Some y) → (n : ℕ) (ds es : Drafts)
-    → put_field n p y ds ≡ Some es → on_some (field_at n es) (part p) ≡ Some y
-field_put p y h n no_draft es q = absurd cc
-field_put p y h zero (draft d ds) es q =
-    let put = some_mapped (λ x. draft x ds) (put_part p y d) es q in
-    subst (λ (z : Drafts). on_some (field_at 0 z) (part p) ≡ Some y) put.2 (h d put.0 put.1)
-field_put p y h (suc n) (draft d ds) es q =
-    let put = some_mapped (draft d) (put_field n p y ds) es q in
-    subst (λ (z : Drafts). on_some (field_at (suc n) z) (part p) ≡ Some y) put.2 (field_put p y h n ds put.0 put.1)
-
--- it is there
-pub put_got : (p : List ℕ) (y d e : Draft) → put_part p y d ≡ Some e → part p e ≡ Some y
-put_got [] y d e q = sym q
-put_got (n ∷ p) y (fields ds) e q =
-    let put = some_mapped fields (put_field n p y ds) e q in
-    subst (λ (z : Draft). part (n ∷ p) z ≡ Some y) put.2 (field_put p y (put_got p y) n ds put.0 put.1)
-put_got (n ∷ p) y (raw t) e q = absurd cc
-put_got (n ∷ p) y (digit a) e q = absurd cc
-put_got (n ∷ p) y (listed t m) e q = absurd cc
-put_got (n ∷ p) y (lined a m) e q = absurd cc
-put_got (n ∷ p) y (tagged m t) e q = absurd cc
-put_got (n ∷ p) y (flagged t) e q = absurd cc
-put_got (n ∷ p) y (done v) e q = absurd cc
-
-field_again : (p : List ℕ) (y z : Draft) → ((d e : Draft) → put_part p y d ≡ Some e → put_part p z e ≡ put_part p z d)
-    → (n : ℕ) (ds es : Drafts) → put_field n p y ds ≡ Some es → put_field n p z es ≡ put_field n p z ds
-field_again p y z h n no_draft es q = absurd cc
-field_again p y z h zero (draft d ds) es q =
-    let put = some_mapped (λ x. draft x ds) (put_part p y d) es q in
-    subst (λ (w : Drafts). put_field 0 p z w ≡ put_field 0 p z (draft d ds)) put.2
-    (ap (option_map (λ x. draft x ds)) (h d put.0 put.1))
-field_again p y z h (suc n) (draft d ds) es q =
-    let put = some_mapped (draft d) (put_field n p y ds) es q in
-    subst (λ (w : Drafts). put_field (suc n) p z w ≡ put_field (suc n) p z (draft d ds)) put.2
-    (ap (option_map (draft d)) (field_again p y z h n ds put.0 put.1))
-
 -- another part put there is put as into the whole before
 pub put_again : (p : List ℕ) (y z d e : Draft) → put_part p y d ≡ Some e → put_part p z e ≡ put_part p z d
-put_again [] y z d e q = refl
-put_again (n ∷ p) y z (fields ds) e q =
-    let put = some_mapped fields (put_field n p y ds) e q in
-    subst (λ (w : Draft). put_part (n ∷ p) z w ≡ put_part (n ∷ p) z (fields ds)) put.2
-    (ap (option_map fields) (field_again p y z (put_again p y z) n ds put.0 put.1))
-put_again (n ∷ p) y z (raw t) e q = absurd cc
-put_again (n ∷ p) y z (digit a) e q = absurd cc
-put_again (n ∷ p) y z (listed t m) e q = absurd cc
-put_again (n ∷ p) y z (lined a m) e q = absurd cc
-put_again (n ∷ p) y z (tagged m t) e q = absurd cc
-put_again (n ∷ p) y z (flagged t) e q = absurd cc
-put_again (n ∷ p) y z (done v) e q = absurd cc
+put_again p y z d e q = rebasing.put_again y z p d e q
 
 -- so the part that was put can be taken out again
 pub put_fits : (p : List ℕ) (y d e : Draft) → put_part p y d ≡ Some e → IsThere (part p e)
-put_fits p y d e q = subst IsThere (sym (put_got p y d e q)) tt
+put_fits p y d e q = subst IsThere (sym (rebasing.put_there y p d e q)) tt
 
 pub at_gives : (f : Filler) (p : List ℕ) (d d' x y e : Draft) (s t : Place) → part p d ≡ Some x
     → ((z : Draft) → put_part p z d' ≡ put_part p z d) → f x s ≡ gives y t → put_part p y d' ≡ Some e
