@@ -15,7 +15,7 @@ use Rattle.chunker.specs.declared.phase.Phase.{Phase}
 use Rattle.chunker.specs.Chunked.{moved, consts_joined, zeros, chunk_of, closed, chunked, cases_chunked}
 use Rattle.chunker.specs.Left.{by_fours, leave, looped, switched, perhaps}
 use Rattle.chunker.specs.Phases.{AtPhase, unknown, modulo, shift, is_known}
-use Rattle.chunker.proofs.Ending.{leads_some, leads_on_some, leads_over, leads_present, leads_anywhere, leads_wide, place, left, turn, case_left}
+use Rattle.chunker.proofs.Ending.{Leads, leads_some, leads_on_some, leads_over, leads_present, leads_anywhere, leads_wide, place, left, turn, case_left}
 use Rattle.chunker.proofs.Filled.{filled_two, filled_joined, filled_zeros, zeros_few, joined_few}
 use Rattle.chunker.proofs.Keeping.{Keeps, Becomes, becomes_same, becomes_both, becomes_on_some, becomes_over, becomes_present, becomes_at, becomes_if, none_stored, fewer_stored, two_stored, padded_stored, strip}
 use Rattle.chunker.proofs.Known.{at_shift, known_gap, behind_gap, meet_first, meet_second}
@@ -163,6 +163,14 @@ module _ (h : Head) (c d : Calls) (agree : (k : ℕ) (A : ℕ → Type 0) (w : V
       → Becomes (AtPhase ph) (steps c h b v) (steps d h (chunked ph 0 [] b) v)
   begun b v ph f = stripped ph (steps c h b v) (steps d h (chunked ph 0 [] b) v) f
 
+  -- steps that stay, before a block that begins anew
+  stays_before : (ph end : Phase) (r : Block) (v : Val) (x : Steps) → Leads x (AtPhase ph) (AtPhase end)
+      → Becomes (AtPhase end) (steps c h r v) (steps d h (chunked end 0 [] r) v)
+      → Becomes (AtPhase ph) (both x (steps c h r v)) (both x (steps d h (chunked end 0 [] r) v))
+  stays_before ph end r v x leads rest =
+      becomes_both (AtPhase ph) (AtPhase end) x x (steps c h r v) (steps d h (chunked end 0 [] r) v) (becomes_same (AtPhase ph) x) leads
+      rest
+
   -- ---- blocks
 
   mutual
@@ -171,13 +179,11 @@ module _ (h : Head) (c d : Calls) (agree : (k : ℕ) (A : ℕ → Type 0) (w : V
     goes_on stop v ph n ps o f = ended ph v n ps o stop (Some []) f (becomes_same (AtPhase ph) (Some []))
     goes_on (ensure k r) v ph n ps o f =
         ended ph v n ps o (ensure k (chunked ph 0 [] r)) (both (Some (Room k ∷ [])) (steps c h r v)) f
-        (becomes_both (AtPhase ph) (AtPhase ph) (Some (Room k ∷ [])) (Some (Room k ∷ [])) (steps c h r v) (steps d h (chunked ph 0 [] r) v)
-        (becomes_same (AtPhase ph) (Some (Room k ∷ []))) (leads_some (Room k ∷ []) (AtPhase ph) (AtPhase ph) (λ p a. a)) (begun r v ph
-        (goes_on r v ph 0 [] [] refl)))
+        (stays_before ph ph r v (Some (Room k ∷ [])) (leads_some (Room k ∷ []) (AtPhase ph) (AtPhase ph) (λ p a. a))
+        (begun r v ph (goes_on r v ph 0 [] [] refl)))
     goes_on (ensure_row q u x r) v ph n ps o f =
         ended ph v n ps o (ensure_row q u x (chunked ph 0 [] r)) (both (row_room q u x v) (steps c h r v)) f
-        (becomes_both (AtPhase ph) (AtPhase ph) (row_room q u x v) (row_room q u x v) (steps c h r v) (steps d h (chunked ph 0 [] r) v)
-        (becomes_same (AtPhase ph) (row_room q u x v))
+        (stays_before ph ph r v (row_room q u x v)
         (leads_on_some (on_some (at q v) length_in) (λ m. Some (Room (m * u + x) ∷ [])) (AtPhase ph) (AtPhase ph)
         (λ m. leads_some (Room (m * u + x) ∷ []) (AtPhase ph) (AtPhase ph) (λ p a. a))) (begun r v ph (goes_on r v ph 0 [] [] refl)))
     goes_on (align a r) v ph n ps o f =
@@ -190,22 +196,16 @@ module _ (h : Head) (c d : Calls) (agree : (k : ℕ) (A : ℕ → Type 0) (w : V
         (λ w e. goes_on r v (shift ph s) (n + s) (ps ++ map (moved n) qs) (o ++ w) (filled_two h v n s ps qs o w f e))
     goes_on (row_copy q r) v ph n ps o f =
         ended ph v n ps o (row_copy q (chunked unknown 0 [] r)) (both (copy_steps q v) (steps c h r v)) f
-        (becomes_both (AtPhase ph) (AtPhase unknown) (copy_steps q v) (copy_steps q v) (steps c h r v) (steps d h
-        (chunked unknown 0 [] r) v)
-        (becomes_same (AtPhase ph) (copy_steps q v)) (leads_anywhere (copy_steps q v) (AtPhase ph)) (begun r v unknown
-        (goes_on r v unknown 0 [] [] refl)))
+        (stays_before ph unknown r v (copy_steps q v) (leads_anywhere (copy_steps q v) (AtPhase ph))
+        (begun r v unknown (goes_on r v unknown 0 [] [] refl)))
     goes_on (row_swap q r) v ph n ps o f =
         ended ph v n ps o (row_swap q (chunked unknown 0 [] r)) (both (swap_steps q v) (steps c h r v)) f
-        (becomes_both (AtPhase ph) (AtPhase unknown) (swap_steps q v) (swap_steps q v) (steps c h r v) (steps d h
-        (chunked unknown 0 [] r) v)
-        (becomes_same (AtPhase ph) (swap_steps q v)) (leads_anywhere (swap_steps q v) (AtPhase ph)) (begun r v unknown
-        (goes_on r v unknown 0 [] [] refl)))
+        (stays_before ph unknown r v (swap_steps q v) (leads_anywhere (swap_steps q v) (AtPhase ph))
+        (begun r v unknown (goes_on r v unknown 0 [] [] refl)))
     goes_on (row_wide q w r) v ph n ps o f =
         ended ph v n ps o (row_wide q w (chunked (by_fours ph) 0 [] r)) (both (wide_steps q w v) (steps c h r v)) f
-        (becomes_both (AtPhase ph) (AtPhase (by_fours ph)) (wide_steps q w v) (wide_steps q w v) (steps c h r v)
-        (steps d h (chunked (by_fours ph) 0 [] r) v)
-        (becomes_same (AtPhase ph) (wide_steps q w v)) (leads_wide ph q w v) (begun r v (by_fours ph) (goes_on r v
-        (by_fours ph) 0 [] [] refl)))
+        (stays_before ph (by_fours ph) r v (wide_steps q w v) (leads_wide ph q w v)
+        (begun r v (by_fours ph) (goes_on r v (by_fours ph) 0 [] [] refl)))
     goes_on (each q b r) v ph n ps o f =
         let s = looped ph b in
         ended ph v n ps o (each q (chunked s 0 [] b) (chunked s 0 [] r))
@@ -254,9 +254,7 @@ module _ (h : Head) (c d : Calls) (agree : (k : ℕ) (A : ℕ → Type 0) (w : V
         (leads_anywhere (on_some (at q v) (c k)) (AtPhase ph)) (begun r v unknown (goes_on r v unknown 0 [] [] refl)))
     goes_on (patch x s w r) v ph n ps o f =
         ended ph v n ps o (patch x s w (chunked ph 0 [] r)) (both (Some (Patched x s w ∷ [])) (steps c h r v)) f
-        (becomes_both (AtPhase ph) (AtPhase ph) (Some (Patched x s w ∷ [])) (Some (Patched x s w ∷ [])) (steps c h r v)
-        (steps d h (chunked ph 0 [] r) v)
-        (becomes_same (AtPhase ph) (Some (Patched x s w ∷ []))) (leads_some (Patched x s w ∷ []) (AtPhase ph) (AtPhase ph) (λ p a. a))
+        (stays_before ph ph r v (Some (Patched x s w ∷ [])) (leads_some (Patched x s w ∷ []) (AtPhase ph) (AtPhase ph) (λ p a. a))
         (begun r v ph (goes_on r v ph 0 [] [] refl)))
 
     pub case_begins : (cs : Cases) (m : ℤ) (w : Val) (ph : Phase)

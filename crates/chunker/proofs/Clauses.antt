@@ -37,11 +37,7 @@ rest_at _ r eight lt = omega (arith, lt)
 checks_of : (ss : List Step) → (costs (others ss)).checks ≡ (costs ss).checks
 checks_of [] = refl
 checks_of (Room n ∷ ss) = omega (arith, checks_of ss)
-checks_of (Pad a ∷ ss) = omega (arith, checks_of ss)
-checks_of (Stored os k ∷ ss) = omega (arith, checks_of ss)
-checks_of (Widened os k ∷ ss) = omega (arith, checks_of ss)
-checks_of (Copied os ∷ ss) = omega (arith, checks_of ss)
-checks_of (Patched at sub order ∷ ss) = omega (arith, checks_of ss)
+checks_of (_ ∷ ss) = omega (arith, checks_of ss)
 
 rows_of : (ss : List Step) → rows_in (others ss) ≡ rows_in ss
 rows_of [] = refl
@@ -57,36 +53,41 @@ rows_of (Patched at sub order ∷ ss) = rows_of ss
 abbrev chunked_sub : List SendOp → Block
 chunked_sub s = chunked unknown 0 [] (code_seen s)
 
-same_subs : (xs ys : List (List SendOp)) → map code_seen xs ≡ map chunked_sub ys
-    → map (λ (s : List SendOp). skeleton (code_seen s)) xs ≡ map (λ (s : List SendOp). skeleton (code_seen s)) ys
-same_subs [] [] e = refl
-same_subs [] (y ∷ ys) e = absurd cc
-same_subs (x ∷ xs) [] e = absurd cc
-same_subs (x ∷ xs) (y ∷ ys) e =
-    let first : code_seen x ≡ chunked_sub y = cc in
-    let rest : map code_seen xs ≡ map chunked_sub ys = cc in
-    ap (λ (b : Block). b ∷ map (λ (s : List SendOp). skeleton (code_seen s)) xs) (ap skeleton first ∙ bare (code_seen y) unknown 0 [])
-    ∙ ap (λ (l : List Block). skeleton (code_seen y) ∷ l) (same_subs xs ys rest)
+-- codes that are made of others: what is the same of what is made of each
+pub same_subs : {X B C : Type 0} (f g : X → B) (s : B → C) → ((x : X) → s (g x) ≡ s (f x)) → (xs ys : List X) → map f xs ≡ map g ys
+    → map (λ x. s (f x)) xs ≡ map (λ x. s (f x)) ys
+same_subs f g s same [] [] e = refl
+same_subs f g s same [] (y ∷ ys) e = absurd cc
+same_subs f g s same (x ∷ xs) [] e = absurd cc
+same_subs {X} {B} {C} f g s same (x ∷ xs) (y ∷ ys) e =
+    let first : f x ≡ g y = cc in
+    let rest : map f xs ≡ map g ys = cc in
+    ap (λ (b : C). b ∷ map (λ x. s (f x)) xs) (ap s first ∙ same y)
+    ∙ ap (λ (l : List C). s (f y) ∷ l) (same_subs f g s same xs ys rest)
 
-short_subs : (xs ys : List (List SendOp)) → map code_seen xs ≡ map chunked_sub ys → EachCode (IsRunShort 7) xs
-short_subs [] ys e = tt
-short_subs (x ∷ xs) [] e = absurd cc
-short_subs (x ∷ xs) (y ∷ ys) e =
-    let first : code_seen x ≡ chunked_sub y = cc in
-    let rest : map code_seen xs ≡ map chunked_sub ys = cc in
-    (subst (IsRunShort 7) (sym first) (fresh (code_seen y) unknown one), short_subs xs ys rest)
-
-made_sub : (o : Option (List SendOp)) → option_map (λ (s : List SendOp). chunked unknown 0 [] (code_seen s)) o
-    ≡ option_map (chunked unknown 0 []) (option_map code_seen o)
-made_sub None = refl
-made_sub (Some s) = refl
+-- a fact of what is made of each
+pub all_subs : {X B : Type 0} (f g : X → B) (P : B → Type 0) (E : List X → Type 0) → E []
+    → ((x : X) (xs : List X) → P (f x) → E xs → E (x ∷ xs)) → ((x : X) → P (g x)) → (xs ys : List X) → map f xs ≡ map g ys
+    → E xs
+all_subs f g P E none more each [] ys e = none
+all_subs f g P E none more each (x ∷ xs) [] e = absurd cc
+all_subs f g P E none more each (x ∷ xs) (y ∷ ys) e =
+    let first : f x ≡ g y = cc in
+    let rest : map f xs ≡ map g ys = cc in
+    more x xs (subst P (sym first) (each y)) (all_subs f g P E none more each xs ys rest)
 
 -- the code at a place
+pub found_sub : {X B : Type 0} (f : X → B) (g : B → B) (xs ys : List X) → map f xs ≡ map (λ x. g (f x)) ys → (k : ℕ)
+    → option_map f (slice_get xs k) ≡ option_map g (option_map f (slice_get ys k))
+found_sub {X} {B} f g xs ys e k =
+    sym (slice_get-map f xs k) ∙ ap (λ (l : List B). slice_get l k) e ∙ slice_get-map (λ x. g (f x)) ys k ∙ twice (slice_get ys k) where
+      twice : (o : Option X) → option_map (λ x. g (f x)) o ≡ option_map g (option_map f o)
+      twice None = refl
+      twice (Some x) = refl
+
 sub_made : (phase : Phase) (given code : SendCode) → IsChunked phase given code → (k : ℕ)
     → sub_at code.subs k ≡ option_map (chunked unknown 0 []) (sub_at given.subs k)
-sub_made phase given code is k =
-    sym (slice_get-map code_seen code.subs k) ∙ ap (λ (l : List Block). slice_get l k) is.subs
-    ∙ slice_get-map (λ (s : List SendOp). chunked unknown 0 [] (code_seen s)) given.subs k ∙ made_sub (slice_get given.subs k)
+sub_made phase given code is k = found_sub code_seen (chunked unknown 0 []) code.subs given.subs is.subs k
 
 module _ (phase : Phase) (given code : SendCode) (is : IsChunked phase given code) where
   one_call : (h : Head) (n : ℕ) (A : ℕ → Type 0) (w : Val) (o : Option Block)
@@ -180,7 +181,10 @@ module _ (phase : Phase) (given code : SendCode) (is : IsChunked phase given cod
   same_ops = ap skeleton is.ops ∙ bare (code_seen given.ops) phase 0 []
 
   pub keeps_others : KeepsOthers given code
-  keeps_others = record { ops = same_ops; subs = same_subs code.subs given.subs is.subs }
+  keeps_others = record {
+    ops = same_ops;
+    subs = same_subs code_seen chunked_sub skeleton (λ s. bare (code_seen s) unknown 0 []) code.subs given.subs is.subs;
+  }
 
   one_entry : (n : ℕ) (v : Val) (o : Option Block) → entered_by (sub_at code.subs) n ≡ entered_by (sub_at given.subs) n
       → of_some (option_map (chunked unknown 0 []) o) (λ b. entered (entered_by (sub_at code.subs) n) b v)
@@ -203,7 +207,8 @@ module _ (phase : Phase) (given code : SendCode) (is : IsChunked phase given cod
   pub runs_short : IsPhase phase → RunsAreShort 7 code
   runs_short i = record {
     ops = subst (IsRunShort 7) (sym is.ops) (fresh (code_seen given.ops) phase (wide_is phase.m i.multiple));
-    subs = short_subs code.subs given.subs is.subs;
+    subs = all_subs code_seen chunked_sub (IsRunShort 7) (EachCode (IsRunShort 7)) tt (λ s ss h k. (h, k))
+        (λ s. fresh (code_seen s) unknown one) code.subs given.subs is.subs;
   }
 
   -- ---- moves

@@ -133,7 +133,7 @@ stays ph x no_default p at = at
 stays ph x (default b) p at = meet_first x (leave ph b) p at
 stays ph x (case n b cs) p at = stays ph (meet x (leave ph b)) cs p (meet_first x (leave ph b) p at)
 
-at_end : (e : Option Phase) (b : Phase) (p : ℕ) → AtPhase b p → AtPhase (meet_end e b) p
+pub at_end : (e : Option Phase) (b : Phase) (p : ℕ) → AtPhase b p → AtPhase (meet_end e b) p
 at_end None b p at = at
 at_end (Some a) b p at = meet_second a b p at
 

@@ -68,21 +68,11 @@ placed_after (suc n) xs ys (c ∷ cs) ds es e f =
 
 moved_octets : (h : Head) (v : Val) (n : ℕ) (p : Put) → put_octets h (moved n p) v ≡ put_octets h p v
 moved_octets h v n (put.Num off p w o) = refl
-moved_octets h v n (put.Tag off p w o) = refl
-moved_octets h v n (put.Flag off p w o) = refl
-moved_octets h v n (put.Count off p m a w o) = refl
-moved_octets h v n (put.Short off p name size m) = refl
-moved_octets h v n (put.Const off os) = refl
-moved_octets h v n (put.Head off f w o) = refl
+moved_octets h v n _ = refl
 
 moved_offset : (n : ℕ) (p : Put) → offset (moved n p) ≡ offset p + n
 moved_offset n (put.Num off p w o) = refl
-moved_offset n (put.Tag off p w o) = refl
-moved_offset n (put.Flag off p w o) = refl
-moved_offset n (put.Count off p m a w o) = refl
-moved_offset n (put.Short off p name size m) = refl
-moved_offset n (put.Const off os) = refl
-moved_offset n (put.Head off f w o) = refl
+moved_offset n _ = refl
 
 -- no octet
 abbrev hole : Option ℕ

@@ -112,11 +112,7 @@ pub record Keeps (p : ℕ) (ss tt : List Step) : Type 0 where
 stores_met : (ss : List Step) → (costs ss).stores ≤ met ss
 stores_met [] = omega arith
 stores_met (Room n ∷ ss) = omega (arith, stores_met ss)
-stores_met (Pad a ∷ ss) = omega (arith, stores_met ss)
-stores_met (Stored os k ∷ ss) = omega (arith, stores_met ss)
-stores_met (Widened os k ∷ ss) = omega (arith, stores_met ss)
-stores_met (Copied os ∷ ss) = omega (arith, stores_met ss)
-stores_met (Patched at sub order ∷ ss) = omega (arith, stores_met ss)
+stores_met (_ ∷ ss) = omega (arith, stores_met ss)
 
 pub keeps_same : (p : ℕ) (ss : List Step) → Keeps p ss ss
 keeps_same p ss = record {

@@ -1,6 +1,5 @@
 -- What is promised of chunked receive code, from what it is.
-use Rattle.std.proofs.Common.{◌≡◌, ℕ, zero, suc, ◌≤◌, List, [], ◌∷◌, map, slice_get, Option, Some, None, option_map, refl, sym, ap, ◌∙◌, subst, arith}
-use Rattle.std.proofs.lemmas.Option.{slice_get-map}
+use Rattle.std.proofs.Common.{◌≡◌, ℕ, zero, suc, ◌≤◌, List, [], Option, Some, None, option_map, sym, ap, ◌∙◌, subst, arith}
 use Rattle.mint.specs.Types.{Ty}
 use Rattle.mint.specs.Values.{Val}
 use Rattle.wire_def.specs.declared.encoding.Encoding.{Encoding}
@@ -17,6 +16,7 @@ use Rattle.chunker.specs.Phases.{IsPhase, AtPhase, unknown}
 use Rattle.chunker.specs.RecvChunked.{chunked}
 use Rattle.chunker.specs.RecvContract.{IsRecvChunked}
 use Rattle.chunker.specs.RecvKept.{after_tests, EndsAs, ReceivesAsAt, IsSoundAsAt, skeleton, KeepsOtherRecvs, AreTestsFew, EachRecv, RunsTestFew}
+use Rattle.chunker.proofs.Clauses.{same_subs, all_subs, found_sub}
 use Rattle.chunker.proofs.Known.{anywhere}
 use Rattle.chunker.proofs.RecvChunking.{fares}
 use Rattle.chunker.proofs.RecvFaring.{AllFare, Somewhere, ends_settled}
@@ -27,36 +27,10 @@ use Rattle.cast_stub.proofs.Widths.{one, wide_is}
 abbrev chunked_sub : List RecvOp → Recv
 chunked_sub s = chunked unknown 0 [] 0 (code_seen s)
 
-same_subs : (xs ys : List (List RecvOp)) → map code_seen xs ≡ map chunked_sub ys
-    → map (λ (s : List RecvOp). skeleton (code_seen s)) xs ≡ map (λ (s : List RecvOp). skeleton (code_seen s)) ys
-same_subs [] [] e = refl
-same_subs [] (y ∷ ys) e = absurd cc
-same_subs (x ∷ xs) [] e = absurd cc
-same_subs (x ∷ xs) (y ∷ ys) e =
-    let first : code_seen x ≡ chunked_sub y = cc in
-    let rest : map code_seen xs ≡ map chunked_sub ys = cc in
-    ap (λ (b : Recv). b ∷ map (λ (s : List RecvOp). skeleton (code_seen s)) xs) (ap skeleton first ∙ bare (code_seen y) unknown 0 [] 0)
-    ∙ ap (λ (l : List Recv). skeleton (code_seen y) ∷ l) (same_subs xs ys rest)
-
-few_subs : (xs ys : List (List RecvOp)) → map code_seen xs ≡ map chunked_sub ys → EachRecv (AreTestsFew 7) xs
-few_subs [] ys e = tt
-few_subs (x ∷ xs) [] e = absurd cc
-few_subs (x ∷ xs) (y ∷ ys) e =
-    let first : code_seen x ≡ chunked_sub y = cc in
-    let rest : map code_seen xs ≡ map chunked_sub ys = cc in
-    (subst (AreTestsFew 7) (sym first) (few_fresh (code_seen y) unknown one), few_subs xs ys rest)
-
-made_sub : (o : Option (List RecvOp)) → option_map (λ (s : List RecvOp). chunked unknown 0 [] 0 (code_seen s)) o
-    ≡ option_map (chunked unknown 0 [] 0) (option_map code_seen o)
-made_sub None = refl
-made_sub (Some s) = refl
-
 -- the code at a place
 sub_made : (phase : Phase) (given code : RecvCode) → IsRecvChunked phase given code → (k : ℕ)
     → sub_at code.subs k ≡ option_map (chunked unknown 0 [] 0) (sub_at given.subs k)
-sub_made phase given code is k =
-    sym (slice_get-map code_seen code.subs k) ∙ ap (λ (l : List Recv). slice_get l k) is.subs
-    ∙ slice_get-map (λ (s : List RecvOp). chunked unknown 0 [] 0 (code_seen s)) given.subs k ∙ made_sub (slice_get given.subs k)
+sub_made phase given code is k = found_sub code_seen (chunked unknown 0 [] 0) code.subs given.subs is.subs k
 
 -- what is spelled is given, and what is not is refused
 exact_as : (e : Encoding) (t : Ty) (p : ℕ) (o : List ℕ) (x y : Run Val) → EndsAs x y → IsExact e t p o x → IsExact e t p o y
@@ -96,11 +70,12 @@ module _ (phase : Phase) (given code : RecvCode) (is : IsRecvChunked phase given
   pub keeps_others : KeepsOtherRecvs given code
   keeps_others = record {
     ops = ap skeleton is.ops ∙ bare (code_seen given.ops) phase 0 [] 0;
-    subs = same_subs code.subs given.subs is.subs;
+    subs = same_subs code_seen chunked_sub skeleton (λ s. bare (code_seen s) unknown 0 [] 0) code.subs given.subs is.subs;
   }
 
   pub test_few : IsPhase phase → RunsTestFew 7 code
   test_few i = record {
     ops = subst (AreTestsFew 7) (sym is.ops) (few_fresh (code_seen given.ops) phase (wide_is phase.m i.multiple));
-    subs = few_subs code.subs given.subs is.subs;
+    subs = all_subs code_seen chunked_sub (AreTestsFew 7) (EachRecv (AreTestsFew 7)) tt (λ s ss h k. (h, k))
+        (λ s. few_fresh (code_seen s) unknown one) code.subs given.subs is.subs;
   }

@@ -12,6 +12,7 @@ use Rattle.chunker.specs.Left.{meet_end, or_unknown, by_fours}
 use Rattle.chunker.specs.Phases.{AtPhase, unknown, shift, aligned, meet}
 use Rattle.chunker.specs.RecvLeft.{leave, cases_leave, looped, switched, perhaps}
 use Rattle.chunker.proofs.Known.{anywhere, at_shift, at_aligned, at_fours, meet_first, meet_second}
+use Rattle.chunker.proofs.Ending.{at_end}
 use Rattle.chunker.proofs.RecvFaring.{Stands, AllLead, stands_to, stands_then, stands_some, stands_same, needed_leads, passed_leads, skipped_leads, within_leads, wide_leads, each_leads, arm_leads, present_leads}
 use Rattle.chunker.proofs.RecvMoved.{all_moved}
 
@@ -41,10 +42,6 @@ stays : (ph x : Phase) (cs : Cases) (p : ℕ) → AtPhase x p → AtPhase (or_un
 stays ph x no_default p at = at
 stays ph x (default b) p at = meet_first x (leave ph b) p at
 stays ph x (case n b cs) p at = stays ph (meet x (leave ph b)) cs p (meet_first x (leave ph b) p at)
-
-at_end : (e : Option Phase) (b : Phase) (p : ℕ) → AtPhase b p → AtPhase (meet_end e b) p
-at_end None b p at = at
-at_end (Some a) b p at = meet_second a b p at
 
 module _ (c : Callees) where
   mutual

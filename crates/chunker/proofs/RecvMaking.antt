@@ -84,15 +84,12 @@ other_takes o end piece old new places is f = record {
 
 -- ---- what is left behind a switch
 
-no_more : (cases : List (ℤ × List RecvOp)) (i : ℕ) → length cases ≤ i → drop i cases ≡ []
-no_more cases i le = drop_of_length-le cases le
-
 switch_ends : (ph : Phase) (e : Option Phase) (items cases : List (ℤ × List RecvOp)) (last : Option (List RecvOp)) (i : ℕ)
     → cases_leave ph None (cases_seen items last) ≡ cases_leave ph e (cases_seen (drop i items) last) → length items ≤ i → items ≡ cases
     → cases_leave ph None (cases_seen cases last) ≡ cases_leave ph e (cases_seen [] last)
 switch_ends ph e items cases last i inv le same =
     ap (λ (l : List (ℤ × List RecvOp)). cases_leave ph None (cases_seen l last)) (sym same) ∙ inv
-    ∙ ap (λ (l : List (ℤ × List RecvOp)). cases_leave ph e (cases_seen l last)) (no_more items i le)
+    ∙ ap (λ (l : List (ℤ × List RecvOp)). cases_leave ph e (cases_seen l last)) (drop_of_length-le items le)
 
 pub ends_some : (ph : Phase) (e : Option Phase) (items cases : List (ℤ × List RecvOp)) (last : Option (List RecvOp)) (body : List RecvOp)
     (i : ℕ)
