@@ -1,5 +1,5 @@
 -- What the code of a row or text reads over CDR.
-use Rattle.std.proofs.Common.{◌≡◌, ℕ, zero, suc, ◌+◌, ◌-◌, ◌*◌, ◌/◌, ◌%◌, ◌<◌, ℤ, pos, negsuc, List, [], ◌∷◌, length, take, drop, max, Option, Some, None, refl, sym, ap, subst, ◌∙◌, arith, Bool, true, false, ◌&&◌, if◌then◌else◌}
+use Rattle.std.proofs.Common.{◌≡◌, ℕ, zero, suc, ◌+◌, ◌-◌, ◌*◌, ◌/◌, ◌%◌, ◌<◌, ℤ, pos, negsuc, List, [], ◌∷◌, length, take, drop, Option, Some, None, refl, sym, ap, subst, ◌∙◌, arith, Bool, true, false, ◌&&◌, if◌then◌else◌}
 use Rattle.std.specs.Prelude.{nat_lt, nat_le, nat_eq}
 use Rattle.std.specs.Int.{Width, w32, byte_len}
 use Rattle.std.proofs.lemmas.Bool.{lt-ltb, le-ltb, ne_eqb}
@@ -26,15 +26,15 @@ use Rattle.cast_stub.specs.declared.recv.Get.TheVariants as get
 use Rattle.cast_stub.specs.RecvBlock.{Recv, finish, skip_any, each}
 use Rattle.cast_stub.specs.RecvAppend.{append}
 use Rattle.cast_stub.specs.Draft.{Draft, raw, digit, lined, done}
-use Rattle.cast_stub.specs.Fill.{settled_number, runs, Callees, fill, all_got}
-use Rattle.cast_stub.specs.Into.{passed, same_octets, scalar_into, length_into, count_into, allows}
-use Rattle.cast_stub.specs.Runs.{Place, Run, gives, refuses, strays, Filler, then_run, if_passed}
+use Rattle.cast_stub.specs.Fill.{settled_number, runs, Callees, fill}
+use Rattle.cast_stub.specs.Into.{same_octets, scalar_into, length_into, count_into, allows}
+use Rattle.cast_stub.specs.Runs.{Place, Run, gives, refuses, strays, Filler, if_passed}
 use Rattle.cast_stub.specs.Layouts.{order_of, scalar_width, element_width, is_free, is_gapped}
 use Rattle.stub_lower.specs.RecvCodes.{aligned, take_code, number_take, gapped_turn, count_code, row_code, end_code}
 use Rattle.stub_lower.proofs.Words.{width_same}
 use Rattle.stub_lower.proofs.Cdr.{no_gap_after, still_none, one_fits, two_fit, four_fit}
 use Rattle.stub_lower.proofs.Agreeing.{Agrees, Same, Settles, agrees-then, agrees-wider, agrees-ends, agrees-runs, SameEnds, ends-same, ends-map, ends-then}
-use Rattle.stub_lower.proofs.RecvEncoded.{tested_place, passed_place, pass_tested, le_true, octets_dropped, same_true, reads-wider, taken, After, LonesRead}
+use Rattle.stub_lower.proofs.RecvEncoded.{const_run, passed_place, octets_dropped, same_true, reads-wider, taken, After, LonesRead}
 use Rattle.stub_lower.proofs.RecvArrays.{ArraysRead, Opens, read_body, read_whole, array-reads, count-opens, numbers-agree, number-agrees, octets-agree, letter_passes, octet_passes}
 use Rattle.stub_lower.proofs.UnitLaws.{along}
 use Rattle.stub_lower.proofs.RecvCdr.{Skips, aligned_run, scalar_split, aligned-scalar, big_scalar, little_scalar}
@@ -46,40 +46,12 @@ by_eight w b is = ap (λ (n : ℕ). aligned n b) is
 abbrev AnyNumber : ℕ → Type 0
 AnyNumber n = Unit {0}
 
--- ---- octets that must be these
-
--- a test and a take of one octet
-pub octet_run : (c : Callees) (b : ℕ) (d : Draft) (s : Place) → fill c (take_code 1 (get.Const 0 (b ∷ []))) d s
-    ≡ (if nat_lt (length s.left) 1 then refuses else (if same_octets (b ∷ []) (take 1 s.left) then gives d (passed_place 1 s) else refuses))
-octet_run c b d s = decided (nat_lt (length s.left) 1) where
-  matched : (g : Bool)
-      → then_run (then_run (if g then gives d (tested_place 1 s) else refuses) (all_got []))
-      (λ x t. then_run (passed 1 x t) (fill c finish))
-      ≡ (if g then gives d (passed_place 1 s) else refuses)
-  matched true = ap (λ (x : Run Draft). then_run x (fill c finish)) (pass_tested 1 d s)
-  matched false = refl
-
-  near : nat_le (0 + 1) (max 1 s.near) ≡ true
-  near = le_true (0 + 1) (max 1 s.near) (omega arith)
-
-  decided : (short : Bool) → then_run (if short then refuses else gives d (tested_place 1 s))
-      (λ x t. then_run
-      (then_run (if nat_le (0 + 1) t.near then (if same_octets (b ∷ []) (take 1 t.left) then gives x t else refuses) else strays)
-      (all_got [])) (λ y u. then_run (passed 1 y u) (fill c finish)))
-      ≡ (if short then refuses else (if same_octets (b ∷ []) (take 1 s.left) then gives d (passed_place 1 s) else refuses))
-  decided true = refl
-  decided false =
-      ap (λ (g : Bool). then_run
-      (then_run (if g then (if same_octets (b ∷ []) (take 1 s.left) then gives d (tested_place 1 s) else refuses) else strays) (all_got []))
-      (λ y u. then_run (passed 1 y u) (fill c finish))) near
-      ∙ matched (same_octets (b ∷ []) (take 1 s.left))
-
 -- the octet 0 after a text
 end-read : (c : Callees) (d : Draft) (s : Place) → AreOctets s.left
     → Agrees AnyNumber (λ (y : Draft) (z : Unit {0}). y ≡ d) (fill c end_code d s) (read_zeros 1 BadText s.pos s.left)
 unfolding read_zeros
 end-read c d s oct = subst (λ (x : Run Draft). Agrees AnyNumber (λ (y : Draft) (z : Unit {0}). y ≡ d) x (read_zeros 1 BadText s.pos s.left))
-    (sym (octet_run c 0 d s)) (cases s.left refl) where
+    (sym (const_run c (0 ∷ []) d s)) (cases s.left refl) where
       result : List ℕ → Run Draft
       result l = if nat_lt (length l) 1 then refuses else (if same_octets (0 ∷ []) (take 1 l) then gives d (passed_place 1 s) else refuses)
 

@@ -21,11 +21,12 @@ use Rattle.wire_def.specs.Arrays.{counted, natural, read_count}
 use Rattle.wire_def.proofs.Words.{IsOwn, is8, is16, is32, is64, own_of}
 use Rattle.wire_def.specs.Orders.{width_in, loaded}
 use Rattle.cast_stub.specs.declared.recv.Get.{Get}
+use Rattle.cast_stub.specs.declared.recv.Get.TheVariants as get
 use Rattle.cast_stub.specs.RecvBlock.{finish, pass}
 use Rattle.cast_stub.specs.Draft.{Draft}
 use Rattle.cast_stub.specs.Fill as filling
 use Rattle.cast_stub.specs.Fill.{all_got, Callees, fill}
-use Rattle.cast_stub.specs.Into.{passed, word_at, scalar_into, length_of, length_into, count_into, allows}
+use Rattle.cast_stub.specs.Into.{passed, same_octets, word_at, scalar_into, length_of, length_into, count_into, allows}
 use Rattle.cast_stub.specs.Runs.{Place, Run, gives, refuses, strays, then_run, map_run, if_passed}
 use Rattle.cast_stub.specs.Layouts.{order_of, scalar_width}
 use Rattle.stub_lower.specs.Items.{number_at}
@@ -48,6 +49,34 @@ le_true n m h = le-leb n m h
 
 pub pass_tested : (n : ℕ) (d : Draft) (s : Place) → passed n d (tested_place n s) ≡ gives d (passed_place n s)
 pass_tested n d s = ap (λ (b : Bool). if b then gives d (passed_place n s) else strays) (le_true n (max n s.near) (omega arith))
+
+-- a test and a take of octets that must be these
+pub const_run : (c : Callees) (os : List ℕ) (d : Draft) (s : Place)
+    → fill c (take_code (length os) (get.Const 0 os)) d s
+    ≡ (if nat_lt (length s.left) (length os) then refuses
+    else (if same_octets os (take (length os) s.left) then gives d (passed_place (length os) s) else refuses))
+const_run c os d s = decided (nat_lt (length s.left) (length os)) where
+  matched : (g : Bool)
+      → then_run (then_run (if g then gives d (tested_place (length os) s) else refuses) (all_got []))
+      (λ x t. then_run (passed (length os) x t) (fill c finish))
+      ≡ (if g then gives d (passed_place (length os) s) else refuses)
+  matched true = ap (λ (x : Run Draft). then_run x (fill c finish)) (pass_tested (length os) d s)
+  matched false = refl
+
+  decided : (short : Bool) → then_run (if short then refuses else gives d (tested_place (length os) s))
+      (λ x t. then_run
+      (then_run
+      (if nat_le (0 + length os) t.near then (if same_octets os (take (length os) t.left) then gives x t else refuses) else strays)
+      (all_got [])) (λ y u. then_run (passed (length os) y u) (fill c finish)))
+      ≡ (if short then refuses
+      else (if same_octets os (take (length os) s.left) then gives d (passed_place (length os) s) else refuses))
+  decided true = refl
+  decided false =
+      ap (λ (g : Bool). then_run
+      (then_run (if g then (if same_octets os (take (length os) s.left) then gives d (tested_place (length os) s) else refuses) else strays)
+      (all_got [])) (λ y u. then_run (passed (length os) y u) (fill c finish)))
+      (le_true (0 + length os) (max (length os) s.near) (omega arith))
+      ∙ matched (same_octets os (take (length os) s.left))
 
 pub octets_dropped : (n : ℕ) (o : List ℕ) → AreOctets o → AreOctets (drop n o)
 octets_dropped zero o h = h

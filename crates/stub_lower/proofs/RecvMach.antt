@@ -1,5 +1,5 @@
 -- What the code of a row or text reads in a Mach message.
-use Rattle.std.proofs.Common.{◌≡◌, ℕ, ◌+◌, ◌-◌, ◌*◌, ◌/◌, ◌%◌, ◌^◌, ◌≤◌, ℤ, List, [], length, take, drop, max, Option, Some, None, refl, sym, ap, subst, ◌∙◌, arith, Bool, true, false, ◌&&◌, if◌then◌else◌}
+use Rattle.std.proofs.Common.{◌≡◌, ℕ, ◌+◌, ◌-◌, ◌*◌, ◌/◌, ◌%◌, ◌^◌, ◌≤◌, ℤ, List, [], length, take, drop, Option, Some, None, refl, sym, ap, subst, arith, Bool, true, false, ◌&&◌, if◌then◌else◌}
 use Rattle.std.specs.Prelude.{nat_lt, nat_le, nat_eq}
 use Rattle.std.specs.Int.{w16, w32}
 use Rattle.std.proofs.lemmas.Bool.{ltb-false, le-ltb}
@@ -20,17 +20,16 @@ use Rattle.wire_def.specs.Scalars.{gap, read_scalar}
 use Rattle.wire_def.specs.Lone.{unit_name, unit_bits, units_of, read_any}
 use Rattle.wire_def.specs.Described.{is_marked, is_long, read_described}
 use Rattle.wire_def.specs.Arrays.{count_of, kind_of, may_stand, read_octet, read_head, read_element, read_tail, read_array}
-use Rattle.cast_stub.specs.declared.recv.Get.TheVariants as get
 use Rattle.cast_stub.specs.RecvBlock.{Recv, finish, skip_any, each}
 use Rattle.cast_stub.specs.RecvAppend.{append}
 use Rattle.cast_stub.specs.Draft.{Draft, raw, digit, lined}
-use Rattle.cast_stub.specs.Fill.{settled_number, runs, fill_row, Callees, fill, all_got}
+use Rattle.cast_stub.specs.Fill.{settled_number, runs, fill_row, Callees, fill}
 use Rattle.cast_stub.specs.Into.{passed, same_octets, length_of, allows, little, units_into, short_into, long_into, form_into, desc_into}
 use Rattle.cast_stub.specs.Runs.{Place, Run, gives, refuses, strays, Filler, then_run, if_passed}
 use Rattle.cast_stub.specs.Layouts.{scalar_width}
-use Rattle.stub_lower.specs.RecvCodes.{take_code, number_take, fixed_code, free_code, described_code, filling_code}
+use Rattle.stub_lower.specs.RecvCodes.{number_take, fixed_code, free_code, described_code, filling_code}
 use Rattle.stub_lower.proofs.Agreeing.{Agrees, Same, Settles, agrees-finish, agrees-wider, agrees-ends, ends-same}
-use Rattle.stub_lower.proofs.RecvEncoded.{tested_place, passed_place, pass_tested, le_true, octets_dropped}
+use Rattle.stub_lower.proofs.RecvEncoded.{const_run, tested_place, passed_place, le_true, octets_dropped}
 use Rattle.stub_lower.proofs.RecvArrays.{ArraysRead, Opens, read_whole, array-reads, numbers-agree, octets-agree, IsOctetArray, letter_passes, octet_passes}
 use Rattle.stub_lower.proofs.UnitLaws.{along, along_words, along_times}
 use Rattle.stub_lower.proofs.RecvCdr.{Skips, skip_run}
@@ -140,36 +139,11 @@ module _ (c : Callees) (a : Array) where
       agrees-finish (IsPlace Mach) (Counted a) (desc_into (unit_name x) (unit_bits x) (units_of x) (raw (array_type a)) s)
       (desc_by (count_of a) x s.pos s.left) c (desc-agrees x s here oct)
 
-  -- a test and a take of four octets that must be these of a word
-  const_run : (w : ℕ) (d : Draft) (s : Place)
-      → fill c (take_code 4 (get.Const 0 (le 4 w))) d s
-      ≡ (if nat_lt (length s.left) 4 then refuses
-      else (if same_octets (le 4 w) (take 4 s.left) then gives d (passed_place 4 s) else refuses))
-  const_run w d s = decided (nat_lt (length s.left) 4) where
-    matched : (g : Bool)
-        → then_run (then_run (if g then gives d (tested_place 4 s) else refuses) (all_got []))
-        (λ x t. then_run (passed 4 x t) (fill c finish))
-        ≡ (if g then gives d (passed_place 4 s) else refuses)
-    matched true = ap (λ (x : Run Draft). then_run x (fill c finish)) (pass_tested 4 d s)
-    matched false = refl
-
-    decided : (short : Bool) → then_run (if short then refuses else gives d (tested_place 4 s))
-        (λ x t. then_run
-        (then_run (if nat_le (0 + 4) t.near then (if same_octets (le 4 w) (take 4 t.left) then gives x t else refuses) else strays)
-        (all_got [])) (λ y u. then_run (passed 4 y u) (fill c finish)))
-        ≡ (if short then refuses else (if same_octets (le 4 w) (take 4 s.left) then gives d (passed_place 4 s) else refuses))
-    decided true = refl
-    decided false =
-        ap (λ (g : Bool). then_run
-        (then_run (if g then (if same_octets (le 4 w) (take 4 s.left) then gives d (tested_place 4 s) else refuses) else strays)
-        (all_got [])) (λ y u. then_run (passed 4 y u) (fill c finish))) (le_true (0 + 4) (max 4 s.near) (omega arith))
-        ∙ matched (same_octets (le 4 w) (take 4 s.left))
-
   fixed-agrees : (x : Scalar) (m : ℕ) (s : Place) → count_of a ≡ Exactly m → IsPlace Mach s.pos → AreOctets s.left
       → Agrees (IsPlace Mach) (Counted a) (fill c (fixed_code x m) (raw (array_type a)) s) (fixed_by x m s.pos s.left)
   fixed-agrees x m s is here oct =
       subst (λ (r : Run Draft). Agrees (IsPlace Mach) (Counted a) r (fixed_by x m s.pos s.left))
-      (sym (const_run (fixed_word x m) (raw (array_type a)) s))
+      (sym (const_run c (le 4 (fixed_word x m)) (raw (array_type a)) s))
       (decided (nat_lt (length s.left) 4) (same_octets (le 4 (fixed_word x m)) (take 4 s.left))) where
         opens : Opens a (raw (array_type a)) m
         opens f t = ap (λ (b : Count). fill_row f a (least b) t) is
