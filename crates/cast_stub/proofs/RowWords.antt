@@ -31,11 +31,13 @@ wrapped_is kind.U64 (pos n) h = kept n n (cast_unsigned w64 (pos n)) 18446744073
 wrapped_is kind.I8 (pos n) h = kept n n (cast_unsigned w8 (pos n)) 128 256 h (λ lt. (omega (arith, lt), omega arith))
 wrapped_is kind.I16 (pos n) h = kept n n (cast_unsigned w16 (pos n)) 32768 65536 h (λ lt. (omega (arith, lt), omega arith))
 wrapped_is kind.I32 (pos n) h = kept n n (cast_unsigned w32 (pos n)) 2147483648 4294967296 h (λ lt. (omega (arith, lt), omega arith))
-wrapped_is kind.I64 (pos n) h = kept n n (cast_unsigned w64 (pos n)) 9223372036854775808 18446744073709551616 h (λ lt. (omega (arith, lt), omega arith))
+wrapped_is kind.I64 (pos n) h =
+    kept n n (cast_unsigned w64 (pos n)) 9223372036854775808 18446744073709551616 h (λ lt. (omega (arith, lt), omega arith))
 wrapped_is kind.I8 (negsuc n) h = kept n (255 - n) (cast_unsigned w8 (negsuc n)) 128 128 h (λ lt. (lt, omega arith))
 wrapped_is kind.I16 (negsuc n) h = kept n (65535 - n) (cast_unsigned w16 (negsuc n)) 32768 32768 h (λ lt. (lt, omega arith))
 wrapped_is kind.I32 (negsuc n) h = kept n (4294967295 - n) (cast_unsigned w32 (negsuc n)) 2147483648 2147483648 h (λ lt. (lt, omega arith))
-wrapped_is kind.I64 (negsuc n) h = kept n (18446744073709551615 - n) (cast_unsigned w64 (negsuc n)) 9223372036854775808 9223372036854775808 h (λ lt. (lt, omega arith))
+wrapped_is kind.I64 (negsuc n) h =
+    kept n (18446744073709551615 - n) (cast_unsigned w64 (negsuc n)) 9223372036854775808 9223372036854775808 h (λ lt. (lt, omega arith))
 wrapped_is _ (negsuc n) h = absurd (omega (arith, ltb-true n 0 h))
 
 -- the octets of a word in the other order

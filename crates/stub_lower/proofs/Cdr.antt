@@ -330,7 +330,8 @@ module _ (e : Encoding) (aligns : (s : Scalar) → alignment_of e s ≡ byte_len
     -- one of numbers of 64 bits
     wide-row : (k : Kind) → byte_len (own_width (number k)) ≡ 8 → (c : Calls) (h : Head) (b : Count) (j : Kind) (ns : List ℤ) (p : ℕ)
         → Allows b (length ns) → IsTrue (list_all (in_range k) ns)
-        → Row c h b (append (row_code e (scalar_width e (number k)) b) (each [] (gapped_turn e (scalar_width e (number k)) (is_free b)) stop))
+        → Row c h b (append (row_code e (scalar_width e (number k)) b)
+        (each [] (gapped_turn e (scalar_width e (number k)) (is_free b)) stop))
         (scalar_octets e (number k)) j ns p
     unfolding count_octets
     wide-row k wide c h b j ns p ok all = cases b ok where

@@ -33,7 +33,8 @@ word_signed true _ is16 o (negsuc n) h = in_word o 2 n (65535 - n) (65535 - n % 
 word_signed true _ is32 o (pos n) h = in_word o 4 n n (n % 4294967296) 4294967296 (omega arith) (omega arith)
 word_signed true _ is32 o (negsuc n) h = in_word o 4 n (4294967295 - n) (4294967295 - n % 4294967296) 2147483648 h (omega arith)
 word_signed true _ is64 o (pos n) h = in_word o 8 n n (n % 18446744073709551616) 18446744073709551616 (omega arith) (omega arith)
-word_signed true _ is64 o (negsuc n) h = in_word o 8 n (18446744073709551615 - n) (18446744073709551615 - n % 18446744073709551616) 9223372036854775808 h (omega arith)
+word_signed true _ is64 o (negsuc n) h =
+    in_word o 8 n (18446744073709551615 - n) (18446744073709551615 - n % 18446744073709551616) 9223372036854775808 h (omega arith)
 word_signed false _ is8 o (pos n) h = in_word o 1 n n (n % 256) 256 h (omega arith)
 word_signed false _ is16 o (pos n) h = in_word o 2 n n (n % 65536) 65536 h (omega arith)
 word_signed false _ is32 o (pos n) h = in_word o 4 n n (n % 4294967296) 4294967296 h (omega arith)
