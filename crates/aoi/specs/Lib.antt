@@ -1,4 +1,5 @@
 pub mod Shapes
+pub mod FullNames
 pub mod Names
 pub mod Units
 pub mod Sound

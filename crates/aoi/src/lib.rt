@@ -3,6 +3,7 @@
 
 mod distinct;
 mod faults;
+mod full_names;
 mod interfaces;
 mod raise_fields;
 mod soundness;
@@ -10,6 +11,7 @@ mod types;
 mod units;
 
 pub use faults::{NameErr, NameFault};
+pub use full_names::FullName;
 pub use interfaces::{Interface, Interfaces, Operation, Operations, Raise, Raises};
 pub use raise_fields::RaiseFields;
 pub use soundness::{is_sound, unfolded};

@@ -11,7 +11,7 @@ ghost use Rattle.aoi.specs.Sound.{is_tag, is_of_tag, is_open, is_some_count, is_
 use crate::distinct::{
     are_arms_different, are_fields_distinct, are_items_distinct, count_item_numbers,
 };
-use crate::{Field, Interface, Operation, Raise, Ty, Unit};
+use crate::{Field, FullName, Interface, Operation, Raise, Ty, Unit};
 use kit_base::Name;
 use kit_base::limits::{MOST_LABELS, MOST_RAISES};
 use mint::kind::Count;
@@ -25,7 +25,7 @@ pub fn is_sound(unit: &Unit) -> bool
     are_sound_types(types) && are_sound_interfaces(unit.interfaces().as_slice(), types)
 }
 
-fn are_sound_interfaces(interfaces: &[Interface], types: &[(Name, Ty)]) -> bool
+fn are_sound_interfaces(interfaces: &[Interface], types: &[(FullName, Ty)]) -> bool
     ensures { result ≡ list_all (is_sound_interface (shapes types.now)) interfaces.now }
 {
     for i in interfaces {
@@ -36,7 +36,7 @@ fn are_sound_interfaces(interfaces: &[Interface], types: &[(Name, Ty)]) -> bool
     true
 }
 
-fn are_sound_types(types: &[(Name, Ty)]) -> bool
+fn are_sound_types(types: &[(FullName, Ty)]) -> bool
     ensures { result ≡ are_sound_types (shapes types.now) 0 (shapes types.now) }
 {
     for (i, (_, ty)) in types.iter().enumerate() {
@@ -49,7 +49,7 @@ fn are_sound_types(types: &[(Name, Ty)]) -> bool
 
 /// Whether a type is sound that may name the types below a limit.
 #[cycle(sound)]
-fn is_sound_type(ty: &Ty, types: &[(Name, Ty)], limit: usize) -> bool
+fn is_sound_type(ty: &Ty, types: &[(FullName, Ty)], limit: usize) -> bool
     requires { limit ≤ length types.now }
     ensures { result ≡ is_sound_type (shapes types.now) limit (seen ty.now) }
 {
@@ -79,7 +79,7 @@ fn is_sound_type(ty: &Ty, types: &[(Name, Ty)], limit: usize) -> bool
 }
 
 #[cycle(sound)]
-fn is_sound_struct(fields: &[Field], types: &[(Name, Ty)], limit: usize) -> bool
+fn is_sound_struct(fields: &[Field], types: &[(FullName, Ty)], limit: usize) -> bool
     requires { limit ≤ length types.now }
     ensures { result ≡ is_sound_type (shapes types.now) limit (structure (members fields.now)) }
 {
@@ -88,7 +88,7 @@ fn is_sound_struct(fields: &[Field], types: &[(Name, Ty)], limit: usize) -> bool
 
 /// Whether the types of fields are sound.
 #[cycle(sound)]
-fn are_sound(fields: &[Field], types: &[(Name, Ty)], limit: usize) -> bool
+fn are_sound(fields: &[Field], types: &[(FullName, Ty)], limit: usize) -> bool
     requires { limit ≤ length types.now }
     ensures { result ≡ are_sound (shapes types.now) limit (members fields.now) }
 {
@@ -102,7 +102,7 @@ fn are_sound(fields: &[Field], types: &[(Name, Ty)], limit: usize) -> bool
 
 /// Whether the types of arms are void or sound.
 #[cycle(sound)]
-fn are_sound_arms(arms: &[(i128, Ty)], types: &[(Name, Ty)], limit: usize) -> bool
+fn are_sound_arms(arms: &[(i128, Ty)], types: &[(FullName, Ty)], limit: usize) -> bool
     requires { limit ≤ length types.now }
     ensures { result ≡ are_sound_arms (shapes types.now) limit (arms_seen arms.now None) }
 {
@@ -116,7 +116,7 @@ fn are_sound_arms(arms: &[(i128, Ty)], types: &[(Name, Ty)], limit: usize) -> bo
 
 /// Whether the default arm is void or sound, if there is one.
 #[cycle(sound)]
-fn is_sound_other(other: &Option<Box<Ty>>, types: &[(Name, Ty)], limit: usize) -> bool
+fn is_sound_other(other: &Option<Box<Ty>>, types: &[(FullName, Ty)], limit: usize) -> bool
     requires { limit ≤ length types.now }
     ensures { result
         ≡ are_sound_arms (shapes types.now) limit (default_of (option_map (λ b. seen b.value) other.now)) }
@@ -128,7 +128,7 @@ fn is_sound_other(other: &Option<Box<Ty>>, types: &[(Name, Ty)], limit: usize) -
 }
 
 #[cycle(sound)]
-fn is_sound_or_void(ty: &Ty, types: &[(Name, Ty)], limit: usize) -> bool
+fn is_sound_or_void(ty: &Ty, types: &[(FullName, Ty)], limit: usize) -> bool
     requires { limit ≤ length types.now }
     ensures { result ≡ or_void (seen ty.now) (is_sound_type (shapes types.now) limit (seen ty.now)) }
 {
@@ -202,7 +202,7 @@ fn name_in(ty: &Ty) -> Option<u32>
 
 /// What a type is once its names are followed, each to a type whose number is below the limit. That
 /// number is the next limit.
-pub fn unfolded<'a>(types: &'a [(Name, Ty)], limit: usize, ty: &'a Ty) -> &'a Ty
+pub fn unfolded<'a>(types: &'a [(FullName, Ty)], limit: usize, ty: &'a Ty) -> &'a Ty
     requires { limit ≤ length types.now }
     ensures { seen result.now ≡ unfolded limit (shapes types.now) limit (seen ty.now) }
 {
@@ -283,14 +283,14 @@ fn are_of_tag(tag: &Ty, arms: &[(i128, Ty)]) -> bool
     true
 }
 
-fn is_sound_raise(types: &[(Name, Ty)], raise: &Raise) -> bool
+fn is_sound_raise(types: &[(FullName, Ty)], raise: &Raise) -> bool
     ensures { result ≡ is_sound_raise (shapes types.now) raise.now }
 {
     let members = raise.members.get().as_slice();
     are_fields_distinct(members) && are_sound(members, types, types.len())
 }
 
-fn are_sound_raises(raises: &[Raise], types: &[(Name, Ty)]) -> bool
+fn are_sound_raises(raises: &[Raise], types: &[(FullName, Ty)]) -> bool
     ensures { result ≡ list_all (is_sound_raise (shapes types.now)) raises.now }
 {
     for raise in raises {
@@ -301,7 +301,7 @@ fn are_sound_raises(raises: &[Raise], types: &[(Name, Ty)]) -> bool
     true
 }
 
-fn is_sound_operation(types: &[(Name, Ty)], slots: u32, op: &Operation) -> bool
+fn is_sound_operation(types: &[(FullName, Ty)], slots: u32, op: &Operation) -> bool
     ensures { result ≡ is_sound_operation (shapes types.now) slots op.now }
 {
     are_sound(op.ins.as_slice(), types, types.len())
@@ -312,7 +312,7 @@ fn is_sound_operation(types: &[(Name, Ty)], slots: u32, op: &Operation) -> bool
         && op.slot < slots
 }
 
-fn are_sound_operations(ops: &[Operation], types: &[(Name, Ty)], slots: u32) -> bool
+fn are_sound_operations(ops: &[Operation], types: &[(FullName, Ty)], slots: u32) -> bool
     ensures { result ≡ list_all (is_sound_operation (shapes types.now) slots) ops.now }
 {
     for op in ops {
@@ -330,7 +330,7 @@ fn are_ids_in_range(i: &Interface) -> bool
     u64::from(i.base) + u64::from(i.slots) + 100 <= (1 << 31) - 1
 }
 
-fn is_sound_interface(types: &[(Name, Ty)], i: &Interface) -> bool
+fn is_sound_interface(types: &[(FullName, Ty)], i: &Interface) -> bool
     ensures { result ≡ is_sound_interface (shapes types.now) i.now }
 {
     are_ids_in_range(i) && are_sound_operations(i.ops.as_slice(), types, i.slots)

@@ -1,5 +1,6 @@
 //! Types, as a file declares them.
 
+use crate::FullName;
 use kit_base::{Listed, Name};
 use mint::kind::{Count, Kind};
 
@@ -16,7 +17,7 @@ pub type Fields = Listed<Field>;
 pub type UnionArms = Listed<(i128, Ty)>;
 
 /// Types, each with its name.
-pub type Types = Listed<(Name, Ty)>;
+pub type Types = Listed<(FullName, Ty)>;
 
 /// A type, as an interface file declares it.
 #[cycle(ty)]

@@ -5,9 +5,9 @@ ghost use Rattle.kit_base.specs.Limits.{most_interfaces, most_operations};
 ghost use Rattle.aoi.specs.Units.{is_twice, AreApart};
 ghost use Rattle.aoi.specs.declared.units.UnitErr.TheVariants.{NoMemory as OutOfMemory};
 
-use crate::{Interface, Interfaces, Ty, Types};
+use crate::{FullName, Interface, Interfaces, Ty, Types};
+use kit_base::NoMemory;
 use kit_base::limits::{MOST_INTERFACES, MOST_OPERATIONS};
-use kit_base::{Name, NoMemory};
 use std::alloc::Global;
 use std::marker::Model;
 
@@ -89,7 +89,7 @@ impl Unit {
     }
 
     /// Appends a type, and gives its number, counted from 0.
-    pub fn add_type(&mut self, name: Name, ty: Ty) -> Result<u32, NoMemory>
+    pub fn add_type(&mut self, name: FullName, ty: Ty) -> Result<u32, NoMemory>
         requires { length self.old.types < 2 ^ 32 }
         ensures value { IfOk result (λ k. k ≡ length self.old.types) }
         ensures ok { OnOk result (self.new ≡ record self.old { types = self.old.types ++ (name, ty) ∷ [] }) }

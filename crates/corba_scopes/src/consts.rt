@@ -4,6 +4,7 @@ ghost use Rattle.std.specs.Prelude.{◌≡◌};
 ghost use Rattle.idl_names.specs.Answers.{Gives};
 ghost use Rattle.corba_scopes.specs.Consts.{number_of, leaf_number, number, constant, length_of};
 
+use crate::around::Scope;
 use crate::meanings::{Constant, Entry, Meaning};
 use crate::state::Scopes;
 use aoi::{NameErr, NameFault};
@@ -36,7 +37,7 @@ impl Scopes {
     fn leaf_number(
         &self,
         alloc: Global,
-        env: &[Name],
+        env: &[Scope],
         decl: u32,
         leaf: &Leaf,
     ) -> Result<i128, NameErr>
@@ -59,7 +60,7 @@ impl Scopes {
     pub fn number(
         &self,
         alloc: Global,
-        env: &[Name],
+        env: &[Scope],
         decl: u32,
         expr: &Expr,
     ) -> Result<i128, NameErr>
@@ -83,7 +84,7 @@ impl Scopes {
     pub fn constant(
         &self,
         alloc: Global,
-        env: &[Name],
+        env: &[Scope],
         decl: u32,
         expr: &Expr,
     ) -> Result<Constant, NameErr>
@@ -99,7 +100,7 @@ impl Scopes {
     pub fn length(
         &self,
         alloc: Global,
-        env: &[Name],
+        env: &[Scope],
         decl: u32,
         expr: &Expr,
     ) -> Result<u32, NameErr>

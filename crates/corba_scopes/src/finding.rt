@@ -3,11 +3,11 @@
 ghost use Rattle.std.specs.Prelude.{◌≡◌, ◌++◌, map, IfOk};
 ghost use Rattle.corba_scopes.specs.Finding.{entry_at, first_in, found, sought, within, first, named};
 
-use crate::around::{full_name, prefix_of};
+use crate::around::{Scope, full_name, prefix_of};
 use crate::meanings::Entry;
 use crate::state::Scopes;
 use idl_exprs::{Identifier, ScopedName};
-use kit_base::{Name, NoMemory};
+use kit_base::NoMemory;
 use std::alloc::Global;
 
 impl Scopes {
@@ -57,13 +57,13 @@ impl Scopes {
     pub fn sought(
         &self,
         alloc: Global,
-        env: &[Name],
+        env: &[Scope],
         name: &[u8],
     ) -> Result<Option<Entry>, NoMemory>
         ensures { IfOk result (λ e. e ≡ sought self.now env.now name.now) }
     {
         match env {
-            [scope, outer @ ..] => match self.found(alloc, scope.as_slice(), name)? {
+            [scope, outer @ ..] => match self.found(alloc, scope.get().as_slice(), name)? {
                 Some(entry) => Ok(Some(entry)),
                 None => self.sought(alloc, outer, name),
             },
@@ -97,7 +97,7 @@ impl Scopes {
     fn first(
         &self,
         alloc: Global,
-        env: &[Name],
+        env: &[Scope],
         absolute: bool,
         name: &[u8],
     ) -> Result<Option<Entry>, NoMemory>
@@ -113,7 +113,7 @@ impl Scopes {
     pub fn named(
         &self,
         alloc: Global,
-        env: &[Name],
+        env: &[Scope],
         name: &ScopedName,
     ) -> Result<Option<Entry>, NoMemory>
         ensures { IfOk result (λ e. e ≡ named self.now env.now name.now) }

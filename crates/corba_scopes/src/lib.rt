@@ -12,7 +12,7 @@ mod prefixes;
 mod scoped;
 mod state;
 
-pub use around::{Env, full_name, innermost, inside, of_file, prefix_of};
+pub use around::{Env, Scope, full_name, innermost, inside, named_in, of_file, prefix_of};
 pub use clashes::{lower_of, refuse_fault};
 pub use idl_names::{Tag, Use};
 pub use meanings::{Constant, Entry, Meaning};

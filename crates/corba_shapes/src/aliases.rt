@@ -14,9 +14,8 @@ use crate::structs::struct_;
 use crate::unions::union_;
 use aoi::NameErr;
 use corba_decls::{Aliased, Declarator, Typedef};
-use corba_scopes::innermost;
+use corba_scopes::{Scope, innermost};
 use idl_names::{Tag, Use};
-use kit_base::Name;
 use std::alloc::Global;
 
 /// The type that is declared with this number, as one that is used.
@@ -30,7 +29,7 @@ fn declared_form(alloc: Global, k: u32, tag: Tag) -> Form
 fn aliased(
     alloc: Global,
     r: &mut Shapes,
-    env: &[Name],
+    env: &[Scope],
     d: u32,
     of: &Aliased,
 ) -> Result<Form, NameErr>
@@ -58,7 +57,7 @@ fn aliased(
 fn alias(
     alloc: Global,
     r: &mut Shapes,
-    env: &[Name],
+    env: &[Scope],
     d: u32,
     form: &Form,
     declarator: &Declarator,
@@ -85,7 +84,7 @@ fn alias(
 fn aliases(
     alloc: Global,
     r: &mut Shapes,
-    env: &[Name],
+    env: &[Scope],
     d: u32,
     form: &Form,
     list: &[Declarator],
@@ -102,7 +101,7 @@ fn aliases(
 pub(crate) fn typedef(
     alloc: Global,
     r: &mut Shapes,
-    env: &[Name],
+    env: &[Scope],
     d: u32,
     t: &Typedef,
 ) -> Result<(), NameErr>

@@ -10,10 +10,9 @@ use crate::forms::{Core, core_tag, core_text, kind_of, named_core, number_core};
 use crate::state::Shapes;
 use aoi::{NameErr, NameFault};
 use corba_decls::{Constant as ConstantTree, ConstantType};
-use corba_scopes::{Constant, Scopes, innermost};
+use corba_scopes::{Constant, Scope, Scopes, innermost};
 use idl_names::{Tag, is_of, refuse};
 use indexmap::IndexSet;
-use kit_base::Name;
 use mint::kind::{Count, Kind};
 use std::alloc::Global;
 
@@ -21,7 +20,7 @@ use std::alloc::Global;
 fn constant_core(
     alloc: Global,
     scopes: &Scopes,
-    env: &[Name],
+    env: &[Scope],
     d: u32,
     of: &ConstantType,
 ) -> Result<Core, NameErr>
@@ -82,7 +81,7 @@ fn fits(labels: &IndexSet<(u32, i128)>, core: Core, value: Constant) -> bool
 pub(crate) fn constant(
     alloc: Global,
     r: &mut Shapes,
-    env: &[Name],
+    env: &[Scope],
     d: u32,
     c: &ConstantTree,
 ) -> Result<(), NameErr>

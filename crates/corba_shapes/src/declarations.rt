@@ -12,14 +12,14 @@ use crate::structs::{exception, struct_};
 use crate::unions::union_;
 use aoi::NameErr;
 use corba_decls::Declaration;
-use kit_base::Name;
+use corba_scopes::Scope;
 use std::alloc::Global;
 
 /// Declares what a declaration declares, by its number and the scopes around it.
 pub fn declare(
     alloc: Global,
     r: &mut Shapes,
-    env: &[Name],
+    env: &[Scope],
     d: u32,
     declaration: &Declaration,
 ) -> Result<(), NameErr>

@@ -10,7 +10,7 @@ ghost use Rattle.corba_shapes.specs.Enums.{item_clash, items_on, enum_on};
 use crate::state::Shapes;
 use aoi::{Items, NameErr, NameFault};
 use corba_decls::Enum;
-use corba_scopes::{Meaning, Scopes, innermost, lower_of, refuse_fault};
+use corba_scopes::{Meaning, Scope, Scopes, innermost, lower_of, refuse_fault};
 use idl_exprs::Identifier;
 use idl_names::{Tag, add_label, enum_of, want};
 use indexmap::IndexSet;
@@ -116,7 +116,7 @@ fn items(
 pub(crate) fn enum_(
     alloc: Global,
     r: &mut Shapes,
-    env: &[Name],
+    env: &[Scope],
     d: u32,
     e: &Enum,
 ) -> Result<(), NameErr>

@@ -9,7 +9,7 @@ ghost use Rattle.corba_shapes.specs.Fields.{lengths_on, placed_on, fields_on, me
 use crate::forms::{Form, form_ty, type_form};
 use aoi::{Counts, Field, Fields, NameErr};
 use corba_decls::{Declarator, Dimension, Member};
-use corba_scopes::{Meaning, Scopes, innermost};
+use corba_scopes::{Meaning, Scope, Scopes, innermost};
 use kit_base::{Name, NoMemory};
 use mint::kind::Count;
 use std::alloc::Global;
@@ -18,7 +18,7 @@ use std::alloc::Global;
 pub(crate) fn lengths(
     alloc: Global,
     scopes: &Scopes,
-    env: &[Name],
+    env: &[Scope],
     d: u32,
     list: &[Dimension],
 ) -> Result<Counts, NameErr>
@@ -36,7 +36,7 @@ pub(crate) fn lengths(
 pub(crate) fn placed(
     alloc: Global,
     scopes: &mut Scopes,
-    env: &[Name],
+    env: &[Scope],
     d: u32,
     declarator: &Declarator,
 ) -> Result<Counts, NameErr>
@@ -63,7 +63,7 @@ fn field(alloc: Global, name: &[u8], form: &Form, lengths: &[Count]) -> Result<F
 fn add_fields(
     alloc: Global,
     scopes: &mut Scopes,
-    env: &[Name],
+    env: &[Scope],
     d: u32,
     form: &Form,
     fields: &mut Fields,
@@ -85,7 +85,7 @@ fn add_fields(
 pub(crate) fn members(
     alloc: Global,
     scopes: &mut Scopes,
-    env: &[Name],
+    env: &[Scope],
     d: u32,
     list: &[Member],
 ) -> Result<Fields, NameErr>

@@ -10,7 +10,7 @@ ghost use Rattle.corba_shapes.specs.Forms.{is_row, core_tag, core_text, form_tag
 
 use aoi::{Counts, NameErr, NameFault, Ty};
 use corba_decls::{Base, Int, IntSize, Simple, TypeName, TypeNode};
-use corba_scopes::{Entry, Meaning, Scopes};
+use corba_scopes::{Entry, Meaning, Scope, Scopes};
 use idl_exprs::{Expr, ScopedName};
 use idl_names::{Tag, Use, array_of, arrays_of, tag_of_use, ty_of_use};
 use kit_base::{Name, NoMemory};
@@ -80,7 +80,7 @@ fn type_of_entry(d: u32, entry: &Option<Entry>) -> Result<(Use, Option<Count>), 
 pub fn named_type(
     alloc: Global,
     scopes: &Scopes,
-    env: &[Name],
+    env: &[Scope],
     d: u32,
     name: &ScopedName,
 ) -> Result<(Use, Option<Count>), NameErr>
@@ -94,7 +94,7 @@ pub fn named_type(
 pub(crate) fn named_core(
     alloc: Global,
     scopes: &Scopes,
-    env: &[Name],
+    env: &[Scope],
     d: u32,
     name: &ScopedName,
 ) -> Result<Core, NameErr>
@@ -124,7 +124,7 @@ fn simple_core(d: u32, word: Simple) -> Result<Core, NameErr>
 fn bounded(
     alloc: Global,
     scopes: &Scopes,
-    env: &[Name],
+    env: &[Scope],
     d: u32,
     bound: &Option<Expr>,
 ) -> Result<Count, NameErr>
@@ -140,7 +140,7 @@ fn bounded(
 fn base_core(
     alloc: Global,
     scopes: &Scopes,
-    env: &[Name],
+    env: &[Scope],
     d: u32,
     base: &Base,
 ) -> Result<Core, NameErr>
@@ -172,7 +172,7 @@ pub(crate) fn single(alloc: Global, core: Core) -> Form
 pub fn type_form(
     alloc: Global,
     scopes: &Scopes,
-    env: &[Name],
+    env: &[Scope],
     d: u32,
     t: &TypeName,
 ) -> Result<Form, NameErr>

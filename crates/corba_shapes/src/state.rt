@@ -9,10 +9,9 @@ ghost use Rattle.corba_shapes.specs.State.{start, counted, with_type};
 
 use crate::types::TypeList;
 use aoi::{NameErr, Raises, Ty};
-use corba_scopes::{Meaning, Scopes, full_name, innermost};
+use corba_scopes::{Meaning, Scope, Scopes, innermost, named_in};
 use idl_names::{Tag, Use, want};
 use indexmap::IndexSet;
-use kit_base::Name;
 use mint::kind::Count;
 use std::alloc::Global;
 
@@ -76,7 +75,7 @@ impl Shapes {
         &mut self,
         alloc: Global,
         d: u32,
-        env: &[Name],
+        env: &[Scope],
         name: &[u8],
         ty: Ty,
         tag: Tag,
@@ -89,7 +88,7 @@ impl Shapes {
         let meaning = Meaning::Type(Use::Declared(k, tag), text);
         self.scopes
             .declare_new(alloc, d, innermost(env), name, meaning)?;
-        self.types.add(full_name(alloc, innermost(env), name)?, ty)?;
+        self.types.add(named_in(alloc, env, name)?, ty)?;
         Ok(())
     }
 }

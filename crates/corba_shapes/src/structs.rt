@@ -11,7 +11,7 @@ use crate::fields::members;
 use crate::state::Shapes;
 use aoi::{Fields, NameErr, Raise, RaiseFields};
 use corba_decls::{Exception, Struct};
-use corba_scopes::{Meaning, full_name, innermost, inside};
+use corba_scopes::{Meaning, Scope, full_name, innermost, inside};
 use idl_names::{Tag, struct_of, want};
 use kit_base::{Name, NoMemory};
 use kit_shared::Shared;
@@ -21,7 +21,7 @@ use std::alloc::Global;
 pub(crate) fn struct_(
     alloc: Global,
     r: &mut Shapes,
-    env: &[Name],
+    env: &[Scope],
     d: u32,
     t: &Struct,
 ) -> Result<(), NameErr>
@@ -82,7 +82,7 @@ fn raised(alloc: Global, full: Name, fields: Fields) -> Result<Raise, NoMemory>
 pub(crate) fn exception(
     alloc: Global,
     r: &mut Shapes,
-    env: &[Name],
+    env: &[Scope],
     d: u32,
     e: &Exception,
 ) -> Result<(), NameErr>

@@ -2,8 +2,8 @@
 
 ghost use Rattle.std.specs.Prelude.{◌≡◌, ◌<◌, ◌^◌, [], ◌∷◌, ◌++◌, length, OnOk, OnErr};
 
-use aoi::{Ty, Unit};
-use kit_base::{Name, NoMemory};
+use aoi::{FullName, Ty, Unit};
+use kit_base::NoMemory;
 use std::alloc::Global;
 use std::marker::Model;
 
@@ -47,7 +47,7 @@ impl TypeList {
     }
 
     /// Puts a type after the others.
-    pub(crate) fn add(&mut self, name: Name, ty: Ty) -> Result<(), NoMemory>
+    pub(crate) fn add(&mut self, name: FullName, ty: Ty) -> Result<(), NoMemory>
         requires { length self.old < 2 ^ 32 }
         ensures ok { OnOk result (self.new ≡ self.old ++ (name, ty) ∷ []) }
         ensures err { OnErr result (self.new ≡ self.old) }

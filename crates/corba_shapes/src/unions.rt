@@ -16,10 +16,10 @@ use crate::forms::{Form, form_ty, kind_of, named_type, type_form};
 use crate::state::Shapes;
 use aoi::{NameErr, NameFault, Ty, UnionArms};
 use corba_decls::{Case, Label, Tag as TagTree, Union};
-use corba_scopes::{Scopes, innermost, inside};
+use corba_scopes::{Scope, Scopes, innermost, inside};
 use idl_names::{Tag, Use, add_number_of, after, boxed, refuse, tag_of_use, ty_of_use, union_of};
 use indexmap::IndexSet;
-use kit_base::{Name, NoMemory};
+use kit_base::NoMemory;
 use mint::kind::{Count, Kind};
 use std::alloc::Global;
 
@@ -27,7 +27,7 @@ use std::alloc::Global;
 fn tag_use(
     alloc: Global,
     scopes: &Scopes,
-    env: &[Name],
+    env: &[Scope],
     d: u32,
     tag: &TagTree,
 ) -> Result<Use, NameErr>
@@ -57,7 +57,7 @@ fn label(
     scopes: &Scopes,
     labels: &IndexSet<(u32, i128)>,
     tag: Tag,
-    env: &[Name],
+    env: &[Scope],
     d: u32,
     numbers: &mut IndexSet<i128>,
     default: bool,
@@ -86,7 +86,7 @@ fn labels_of(
     scopes: &Scopes,
     labels: &IndexSet<(u32, i128)>,
     tag: Tag,
-    env: &[Name],
+    env: &[Scope],
     d: u32,
     numbers: &mut IndexSet<i128>,
     default: bool,
@@ -148,7 +148,7 @@ fn case(
     scopes: &mut Scopes,
     labels: &IndexSet<(u32, i128)>,
     tag: Tag,
-    env: &[Name],
+    env: &[Scope],
     d: u32,
     numbers: &mut IndexSet<i128>,
     arms: &mut UnionArms,
@@ -197,7 +197,7 @@ fn cases(
     scopes: &mut Scopes,
     labels: &IndexSet<(u32, i128)>,
     tag: Tag,
-    env: &[Name],
+    env: &[Scope],
     d: u32,
     numbers: &mut IndexSet<i128>,
     list: &[Case],
@@ -248,7 +248,7 @@ fn union_ty(
 pub(crate) fn union_(
     alloc: Global,
     r: &mut Shapes,
-    env: &[Name],
+    env: &[Scope],
     d: u32,
     u: &Union,
 ) -> Result<(), NameErr>

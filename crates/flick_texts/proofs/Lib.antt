@@ -8,7 +8,7 @@ pub mod Listing
 pub mod Making
 -- * What is sent of requests, one after the other, is what becomes of the buffer
 pub mod Spending
--- * Names of types by their numbers, by induction on the list of types
+-- * Names of types by their numbers, by induction on the list of types, and names in two parts
 pub mod Naming
 -- * What is read of a message that was made
 pub mod Reading

@@ -8,14 +8,14 @@ ghost use Rattle.flick_texts.specs.TypeText.{names_of, trees_of};
 
 use crate::types::{put_parameters, put_type};
 use crate::words::{put, put_numbered};
-use aoi::{Operation, Raise, Ty};
-use kit_base::{Name, NoMemory, Octets};
+use aoi::{FullName, Operation, Raise, Ty};
+use kit_base::{NoMemory, Octets};
 
 /// Puts the line of an operation.
 pub(crate) fn put_operation(
     out: &mut Octets,
     op: &Operation,
-    types: &[(Name, Ty)],
+    types: &[(FullName, Ty)],
 ) -> Result<(), NoMemory>
     ensures { OnOk result (IsPut out.old
         (operation_line (names_of (trees_of types.now)) (plain_operation op.now)) out.new) }
@@ -37,7 +37,7 @@ fn put_head(out: &mut Octets, op: &Operation) -> Result<(), NoMemory>
 }
 
 /// Puts the types of what goes into an operation, and of what comes out.
-fn put_types(out: &mut Octets, op: &Operation, types: &[(Name, Ty)]) -> Result<(), NoMemory>
+fn put_types(out: &mut Octets, op: &Operation, types: &[(FullName, Ty)]) -> Result<(), NoMemory>
     ensures { OnOk result (IsPut out.old
         (operation_types (names_of (trees_of types.now)) (plain_operation op.now)) out.new) }
 {

@@ -9,9 +9,9 @@ ghost use Rattle.flick_texts.specs.TypeText.{names_of, trees_of};
 
 use crate::operations::put_operation;
 use crate::types::put_type;
-use crate::words::{put, put_numbered};
-use aoi::{Interface, Operation, Ty, Unit};
-use kit_base::{Name, NoMemory, Octets};
+use crate::words::{put, put_name, put_numbered};
+use aoi::{FullName, Interface, Operation, Ty, Unit};
+use kit_base::{NoMemory, Octets};
 use std::alloc::Global;
 
 /// The text of a unit: a line for each type, for each interface, and for each of its operations. Its length and the
@@ -27,12 +27,12 @@ pub fn show_text(alloc: Global, unit: &Unit) -> Result<Octets, NoMemory>
 }
 
 /// Puts the lines of types.
-fn put_types(out: &mut Octets, types: &[(Name, Ty)]) -> Result<(), NoMemory>
+fn put_types(out: &mut Octets, types: &[(FullName, Ty)]) -> Result<(), NoMemory>
     ensures { OnOk result (IsPut out.old
         (type_lines (names_of (trees_of types.now)) (trees_of types.now)) out.new) }
 {
     for (name, ty) in types {
-        put_type_line(out, name.as_slice(), ty, types)?;
+        put_type_line(out, name, ty, types)?;
     }
     Ok(())
 }
@@ -40,15 +40,15 @@ fn put_types(out: &mut Octets, types: &[(Name, Ty)]) -> Result<(), NoMemory>
 /// Puts the line of a type.
 fn put_type_line(
     out: &mut Octets,
-    name: &[u8],
+    name: &FullName,
     ty: &Ty,
-    types: &[(Name, Ty)],
+    types: &[(FullName, Ty)],
 ) -> Result<(), NoMemory>
     ensures { OnOk result (IsPut out.old
         (type_line (names_of (trees_of types.now)) (name.now, seen ty.now)) out.new) }
 {
     put(out, b"type ")?;
-    put(out, name)?;
+    put_name(out, name)?;
     put(out, b" = ")?;
     put_type(out, ty, types)?;
     put(out, b"\n")
@@ -58,7 +58,7 @@ fn put_type_line(
 fn put_interfaces(
     out: &mut Octets,
     interfaces: &[Interface],
-    types: &[(Name, Ty)],
+    types: &[(FullName, Ty)],
 ) -> Result<(), NoMemory>
     ensures { OnOk result (IsPut out.old
         (interface_lines (names_of (trees_of types.now)) (map plain_interface interfaces.now)) out.new) }
@@ -86,7 +86,7 @@ fn put_interface_line(out: &mut Octets, interface: &Interface) -> Result<(), NoM
 fn put_operations(
     out: &mut Octets,
     operations: &[Operation],
-    types: &[(Name, Ty)],
+    types: &[(FullName, Ty)],
 ) -> Result<(), NoMemory>
     ensures { OnOk result (IsPut out.old
         (operation_lines (names_of (trees_of types.now)) (map plain_operation operations.now)) out.new) }

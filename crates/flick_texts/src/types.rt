@@ -8,13 +8,13 @@ ghost use Rattle.flick_texts.specs.Arrays.{all_elements_text};
 ghost use Rattle.flick_texts.specs.TypeText.{arms_text, elements_text, fields_text, items_text, kind_word, mark_after, names_of, parameters_text, string_text, trees_of, type_text};
 
 use crate::words::{put, put_numbered, put_signed};
-use aoi::{Field, Ty};
+use aoi::{Field, FullName, Ty};
 use kit_base::{Name, NoMemory, Octets};
 use mint::kind::{Count, Kind};
 
 /// Puts the text of a type over the types of its unit.
 #[cycle(put)]
-pub(crate) fn put_type(out: &mut Octets, ty: &Ty, types: &[(Name, Ty)]) -> Result<(), NoMemory>
+pub(crate) fn put_type(out: &mut Octets, ty: &Ty, types: &[(FullName, Ty)]) -> Result<(), NoMemory>
     ensures { OnOk result (IsPut out.old (type_text (names_of (trees_of types.now)) (seen ty.now)) out.new) }
 {
     match ty {
@@ -48,13 +48,13 @@ pub(crate) fn put_type(out: &mut Octets, ty: &Ty, types: &[(Name, Ty)]) -> Resul
             put(out, b"maybe ")?;
             put_type(out, item, types)
         }
-        Ty::Named(k) => put(out, type_name(types, *k)),
+        Ty::Named(k) => put_type_name(out, types, *k),
     }
 }
 
 /// Puts the texts of fields, each after the field's name.
 #[cycle(put)]
-fn put_fields(out: &mut Octets, fields: &[Field], types: &[(Name, Ty)]) -> Result<(), NoMemory>
+fn put_fields(out: &mut Octets, fields: &[Field], types: &[(FullName, Ty)]) -> Result<(), NoMemory>
     ensures { OnOk result (IsPut out.old
         (fields_text (names_of (trees_of types.now)) [] (members fields.now)) out.new) }
 {
@@ -71,7 +71,7 @@ fn put_fields(out: &mut Octets, fields: &[Field], types: &[(Name, Ty)]) -> Resul
 
 /// Puts the texts of arms, each after its number.
 #[cycle(put)]
-fn put_arms(out: &mut Octets, arms: &[(i128, Ty)], types: &[(Name, Ty)]) -> Result<(), NoMemory>
+fn put_arms(out: &mut Octets, arms: &[(i128, Ty)], types: &[(FullName, Ty)]) -> Result<(), NoMemory>
     ensures { OnOk result (IsPut out.old
         (arms_text (names_of (trees_of types.now)) [] (arms_seen arms.now None)) out.new) }
 {
@@ -99,7 +99,7 @@ fn put_default(
     out: &mut Octets,
     mark: &[u8],
     other: &Option<Box<Ty>>,
-    types: &[(Name, Ty)],
+    types: &[(FullName, Ty)],
 ) -> Result<(), NoMemory>
     ensures { OnOk result (IsPut out.old (arms_text (names_of (trees_of types.now)) mark.now
         (default_of (option_map (λ b. seen b.value) other.now))) out.new) }
@@ -119,7 +119,7 @@ pub(crate) fn put_parameters(
     out: &mut Octets,
     first: &[u8],
     fields: &[Field],
-    types: &[(Name, Ty)],
+    types: &[(FullName, Ty)],
 ) -> Result<(), NoMemory>
     ensures { OnOk result (IsPut out.old
         (parameters_text (names_of (trees_of types.now)) first.now (members fields.now)) out.new) }
@@ -133,14 +133,24 @@ pub(crate) fn put_parameters(
     Ok(())
 }
 
-/// The name of the type of a number.
-fn type_name(types: &[(Name, Ty)], k: u32) -> &[u8]
-    ensures { result.now ≡ slice_index_or (names_of (trees_of types.now)) k [] }
+/// The parts of the name of the type of a number.
+fn type_name(types: &[(FullName, Ty)], k: u32) -> (&[u8], &[u8])
+    ensures { result.0.now ++ result.1.now ≡ slice_index_or (names_of (trees_of types.now)) k [] }
 {
     match types.get(k as usize) {
-        Some((name, _)) => name.as_slice(),
-        None => &[],
+        Some((name, _)) => name.parts(),
+        None => (&[], &[]),
     }
+}
+
+/// Puts the name of the type of a number.
+fn put_type_name(out: &mut Octets, types: &[(FullName, Ty)], k: u32) -> Result<(), NoMemory>
+    ensures { OnOk result (IsPut out.old
+        (λ rest. slice_index_or (names_of (trees_of types.now)) k [] ++ rest) out.new) }
+{
+    let (prefix, own) = type_name(types, k);
+    put(out, prefix)?;
+    put(out, own)
 }
 
 /// Puts the text of an enum.

@@ -5,6 +5,7 @@ ghost use Rattle.std.specs.Fmt.{signed_decimal};
 ghost use Rattle.stub_print.specs.Putting.{IsPut};
 ghost use Rattle.flick_texts.specs.TypeText.{numbered};
 
+use aoi::FullName;
 use itoa::Buffer;
 use kit_base::{NoMemory, Octets};
 
@@ -13,6 +14,15 @@ pub(crate) fn put(out: &mut Octets, octets: &[u8]) -> Result<(), NoMemory>
     ensures { OnOk result (IsPut out.old (λ rest. octets.now ++ rest) out.new) }
 {
     out.append(octets)
+}
+
+/// Puts a full name.
+pub(crate) fn put_name(out: &mut Octets, name: &FullName) -> Result<(), NoMemory>
+    ensures { OnOk result (IsPut out.old (λ rest. name.now ++ rest) out.new) }
+{
+    let (prefix, own) = name.parts();
+    put(out, prefix)?;
+    put(out, own)
 }
 
 /// Puts a number.

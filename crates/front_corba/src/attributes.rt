@@ -13,7 +13,7 @@ use crate::offers::{offer, own_clash};
 use crate::parameters::field;
 use crate::{NameErr, NameFault};
 use aoi::{Fields, Operation, Raises, Ty};
-use corba_scopes::{Meaning, Scopes, full_name, innermost, lower_of, refuse_fault};
+use corba_scopes::{Meaning, Scope, Scopes, full_name, innermost, lower_of, refuse_fault};
 use corba_shapes::{Form, Shapes, form_ty, type_form};
 use corba_syntax::Attribute;
 use idl_exprs::Identifier;
@@ -177,7 +177,7 @@ fn attribute(
 /// Declares attributes of one type.
 pub(crate) fn attributes(
     alloc: Global,
-    env: &[Name],
+    env: &[Scope],
     d: u32,
     home: u32,
     shapes: &mut Shapes,

@@ -12,7 +12,7 @@ use crate::named::Offers;
 use crate::offers::{add, operation_clash};
 use crate::state::{Heir, Offer, Offering, Resolver};
 use crate::{NameErr, NameFault};
-use corba_scopes::{Entry, Meaning, lower_of, prefix_of, refuse_fault};
+use corba_scopes::{Entry, Meaning, Scope, lower_of, prefix_of, refuse_fault};
 use corba_syntax::Reference;
 use idl_names::{add_number, has_number};
 use kit_base::{Name, NoMemory};
@@ -124,7 +124,7 @@ fn new_base(
 fn base(
     alloc: Global,
     r: &Resolver,
-    env: &[Name],
+    env: &[Scope],
     d: u32,
     heir: &mut Heir,
     reference: &Reference,
@@ -144,7 +144,7 @@ fn base(
 pub(crate) fn bases(
     alloc: Global,
     r: &Resolver,
-    env: &[Name],
+    env: &[Scope],
     d: u32,
     heir: &mut Heir,
     list: &[Reference],

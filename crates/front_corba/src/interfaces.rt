@@ -13,7 +13,7 @@ use crate::named::Offers;
 use crate::operations::operation;
 use crate::state::{Heir, Offering, Resolver};
 use crate::{NameErr, NameFault};
-use corba_scopes::{BaseOrder, Meaning, Scopes, full_name, innermost, inside};
+use corba_scopes::{BaseOrder, Meaning, Scope, Scopes, full_name, innermost, inside};
 use corba_shapes::{Shapes, declare};
 use corba_syntax::{Export, Interface};
 use idl_names::refuse;
@@ -25,7 +25,7 @@ use std::alloc::Global;
 /// Declares one export of an interface, by its number as a declaration.
 fn export(
     alloc: Global,
-    env: &[Name],
+    env: &[Scope],
     d: u32,
     home: u32,
     shapes: &mut Shapes,
@@ -45,7 +45,7 @@ fn export(
 /// Declares the exports of an interface, each as a declaration of its own number.
 fn exports(
     alloc: Global,
-    env: &[Name],
+    env: &[Scope],
     home: u32,
     shapes: &mut Shapes,
     ops: &mut Offers,
@@ -96,7 +96,7 @@ fn seat(
     alloc: Global,
     scopes: &Scopes,
     interfaces: &[Offering],
-    env: &[Name],
+    env: &[Scope],
     d: u32,
     name: &[u8],
 ) -> Result<(u32, Name), NameErr>
@@ -120,7 +120,7 @@ fn seat(
 fn with_bases(
     alloc: Global,
     r: &Resolver,
-    env: &[Name],
+    env: &[Scope],
     d: u32,
     mut heir: Heir,
     i: &Interface,
@@ -137,7 +137,7 @@ fn with_bases(
 fn heritage(
     alloc: Global,
     r: &Resolver,
-    env: &[Name],
+    env: &[Scope],
     d: u32,
     i: &Interface,
 ) -> Result<(BaseOrder, Offers), NameErr>
@@ -157,7 +157,7 @@ fn heritage(
 /// Declares the name of an interface, and what it declares after the operations of its bases.
 fn enter(
     alloc: Global,
-    env: &[Name],
+    env: &[Scope],
     d: u32,
     home: u32,
     line: BaseOrder,
@@ -188,7 +188,7 @@ fn enter(
 fn seated(
     alloc: Global,
     r: &mut Resolver,
-    env: &[Name],
+    env: &[Scope],
     d: u32,
     i: &Interface,
     home: u32,
@@ -207,7 +207,7 @@ fn seated(
 pub(crate) fn interface(
     alloc: Global,
     r: &mut Resolver,
-    env: &[Name],
+    env: &[Scope],
     d: u32,
     i: &Interface,
 ) -> Result<(), NameErr>

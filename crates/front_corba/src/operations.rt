@@ -15,12 +15,12 @@ use crate::parameters::{are_in, parameters, raises};
 use crate::{NameErr, NameFault};
 use aoi::{Fields, Operation, Raises, Ty};
 use corba_decls::TypeName;
-use corba_scopes::{Scopes, innermost, inside, refuse_fault};
+use corba_scopes::{Scope, Scopes, innermost, inside, refuse_fault};
 use corba_shapes::{Shapes, form_ty, type_form};
 use corba_syntax::{Operation as OperationTree, Reference};
 use idl_names::refuse;
+use kit_base::NoMemory;
 use kit_base::limits::MOST_OPERATIONS;
-use kit_base::{Name, NoMemory};
 use kit_shared::Shared;
 use std::alloc::Global;
 
@@ -45,7 +45,7 @@ fn gives_back(o: &OperationTree) -> bool
 fn result_of(
     alloc: Global,
     scopes: &Scopes,
-    env: &[Name],
+    env: &[Scope],
     d: u32,
     given: &Option<TypeName>,
 ) -> Result<Ty, NameErr>
@@ -95,7 +95,7 @@ fn breaks_oneway(o: &OperationTree) -> bool
 fn judged(
     alloc: Global,
     scopes: &Scopes,
-    env: &[Name],
+    env: &[Scope],
     d: u32,
     ops: &Offers,
     o: &OperationTree,
@@ -116,7 +116,7 @@ fn signed(
     alloc: Global,
     scopes: &mut Scopes,
     exceptions: &Raises,
-    env: &[Name],
+    env: &[Scope],
     d: u32,
     o: &OperationTree,
     ty: Ty,
@@ -142,7 +142,7 @@ fn signed(
 /// Declares an operation, and at its end its name.
 pub(crate) fn operation(
     alloc: Global,
-    env: &[Name],
+    env: &[Scope],
     d: u32,
     home: u32,
     shapes: &mut Shapes,

@@ -11,12 +11,12 @@ ghost use Rattle.front_corba.specs.Parameters.{goes_in, comes_out, are_in, with_
 use crate::copies::{copy_name, share_raise};
 use crate::{NameErr, NameFault};
 use aoi::{Field, Fields, Raise, Raises};
-use corba_scopes::{Entry, Meaning, Scopes, innermost};
+use corba_scopes::{Entry, Meaning, Scope, Scopes, innermost};
 use corba_shapes::{Form, form_ty, type_form};
 use corba_syntax::{Direction, Parameter, Reference};
 use idl_names::refuse;
+use kit_base::NoMemory;
 use kit_base::limits::MOST_RAISES;
-use kit_base::{Name, NoMemory};
 use std::alloc::Global;
 
 /// Whether the value of a parameter goes from the client to the server.
@@ -82,7 +82,7 @@ fn add_field(
 fn parameter(
     alloc: Global,
     scopes: &mut Scopes,
-    env: &[Name],
+    env: &[Scope],
     d: u32,
     ins: &mut Fields,
     outs: &mut Fields,
@@ -105,7 +105,7 @@ fn parameter(
 pub(crate) fn parameters(
     alloc: Global,
     scopes: &mut Scopes,
-    env: &[Name],
+    env: &[Scope],
     d: u32,
     ins: &mut Fields,
     outs: &mut Fields,
@@ -160,7 +160,7 @@ fn raise(
     alloc: Global,
     scopes: &Scopes,
     exceptions: &Raises,
-    env: &[Name],
+    env: &[Scope],
     d: u32,
     raises: &mut Raises,
     reference: &Reference,
@@ -181,7 +181,7 @@ pub(crate) fn raises(
     alloc: Global,
     scopes: &Scopes,
     exceptions: &Raises,
-    env: &[Name],
+    env: &[Scope],
     d: u32,
     list: &[Reference],
 ) -> Result<Raises, NameErr>

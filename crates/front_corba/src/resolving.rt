@@ -18,10 +18,10 @@ use crate::copies::share_operation;
 use crate::interfaces::interface;
 use crate::state::{Offer, Offering, Resolver};
 use aoi::{Interface, Operations, Unit, UnitErr};
-use corba_scopes::{Entry, Meaning, Scopes, innermost, inside, of_file};
+use corba_scopes::{Entry, Meaning, Scope, Scopes, innermost, inside, of_file};
 use corba_shapes::declare;
 use corba_syntax::{Definition, Module, Tree};
-use kit_base::{Name, NoMemory};
+use kit_base::NoMemory;
 use std::alloc::Global;
 
 /// Whether a name is that of a module.
@@ -53,7 +53,7 @@ fn begin(
 
 /// Declares a module, and what is defined in it.
 #[cycle(definitions)]
-fn module(alloc: Global, r: &mut Resolver, env: &[Name], m: &Module) -> Result<(), NameErr>
+fn module(alloc: Global, r: &mut Resolver, env: &[Scope], m: &Module) -> Result<(), NameErr>
     ensures { Gives (λ _. held r.new) result (module_walk m.now env.now (held r.old)) }
 {
     let d = r.shapes.count;
@@ -65,7 +65,7 @@ fn module(alloc: Global, r: &mut Resolver, env: &[Name], m: &Module) -> Result<(
 
 /// Declares what a definition declares.
 #[cycle(definitions)]
-fn define(alloc: Global, r: &mut Resolver, env: &[Name], def: &Definition) -> Result<(), NameErr>
+fn define(alloc: Global, r: &mut Resolver, env: &[Scope], def: &Definition) -> Result<(), NameErr>
     ensures { Gives (λ _. held r.new) result (walk def.now env.now (held r.old)) }
 {
     match def {
@@ -86,7 +86,7 @@ fn define(alloc: Global, r: &mut Resolver, env: &[Name], def: &Definition) -> Re
 fn define_all(
     alloc: Global,
     r: &mut Resolver,
-    env: &[Name],
+    env: &[Scope],
     list: &[Definition],
 ) -> Result<(), NameErr>
     ensures { Gives (λ _. held r.new) result (definitions_on list.now env.now (held r.old)) }

@@ -15,7 +15,7 @@ ghost use Rattle.front_mig.specs.State.{start, declared, with_type, skip_on};
 use crate::meaning::Scope;
 use crate::numbers::range;
 use crate::{Meaning, NameErr};
-use aoi::{Interface, Operation, Operations, Ty, Unit, UnitErr};
+use aoi::{FullName, Interface, Operation, Operations, Ty, Unit, UnitErr};
 use idl_names::{Names, Tag, Use, want};
 use kit_base::{Name, NoMemory};
 use kit_shared::Shared;
@@ -96,7 +96,9 @@ impl Resolver {
         if self.unit.types().len() > u32::MAX as usize {
             return Err(want());
         }
-        let k = self.unit.add_type(Name::from_slice(alloc, name)?, ty)?;
+        let k = self
+            .unit
+            .add_type(FullName::of(Name::from_slice(alloc, name)?), ty)?;
         self.scope
             .declare(alloc, name, Meaning::Data(Use::Declared(k, tag)))?;
         Ok(())

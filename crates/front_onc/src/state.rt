@@ -15,7 +15,7 @@ ghost use Rattle.aoi.specs.declared.faults.NameFault.TheVariants.{NoMemory as Ou
 
 use crate::meaning::Scope;
 use crate::{Meaning, NameErr, NameFault, Tag, Use};
-use aoi::{Interface, Ty, Unit, UnitErr};
+use aoi::{FullName, Interface, Ty, Unit, UnitErr};
 use idl_names::{add_label, want};
 use indexmap::IndexSet;
 use kit_base::{Name, NoMemory};
@@ -117,7 +117,9 @@ impl Resolver {
         if self.unit.types().len() > u32::MAX as usize {
             return Err(want());
         }
-        let k = self.unit.add_type(Name::from_slice(alloc, name)?, ty)?;
+        let k = self
+            .unit
+            .add_type(FullName::of(Name::from_slice(alloc, name)?), ty)?;
         self.scope
             .declare(alloc, name, Meaning::Type(Use::Declared(k, tag)))?;
         Ok(())

@@ -11,8 +11,7 @@ ghost use Rattle.pres.specs.Offers.{faces_of, offer, offer_at, offers, offers_fr
 use crate::draft::Draft;
 use crate::messages::{gets_null, null_operation};
 use crate::{BindErr, Ops};
-use aoi::{Interface, Ty, Unit};
-use kit_base::Name;
+use aoi::{FullName, Interface, Ty, Unit};
 use std::alloc::Global;
 use wire_def::Back;
 
@@ -93,7 +92,7 @@ impl Draft {
     }
 
     /// Draws the types of a unit, the first nodes.
-    fn draw_types(&mut self, alloc: Global, types: &[(Name, Ty)]) -> Result<(), BindErr>
+    fn draw_types(&mut self, alloc: Global, types: &[(FullName, Ty)]) -> Result<(), BindErr>
         requires nodes { drawn self.old ≡ [] }
         requires types { known self.old ≡ [] }
         requires drawable { AreDrawable 0 (shapes types.now) }
