@@ -2,8 +2,10 @@
 
 -- Rows worked by hand: names at a place in B of this file. const long x = 3; interface A { const long x = 1; const string s = "t"; }; module M { const long x = 2; interface B : ::A { .. }; };
 mod Rows
--- * Names in a map or a set of indexmap, as lists, by induction on the list
+-- * Names in a map of indexmap, as lists, by induction on the list
 pub mod Keyed
+-- * Octets are the same where their halves are
+mod Halves
 -- What holds of everything that names stand for, by induction on the names
 pub mod Standing
 -- * Names by prefixes and own parts: what they stand for is what full names do, by induction on the names

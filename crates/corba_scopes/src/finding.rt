@@ -1,6 +1,6 @@
 //! How names are found.
 
-ghost use Rattle.std.specs.Prelude.{◌≡◌, ◌++◌, map, IfOk};
+ghost use Rattle.std.specs.Prelude.{◌≡◌, ◌++◌, IfOk};
 ghost use Rattle.corba_scopes.specs.Finding.{entry_at, first_in, found, sought, within, first, named};
 
 use crate::around::{Scope, full_name, prefix_of};
@@ -26,16 +26,11 @@ impl Scopes {
     }
 
     /// A name in the first of these scopes in which it is declared.
-    fn along(
-        &self,
-        alloc: Global,
-        scopes: &[Vec<u8>],
-        name: &[u8],
-    ) -> Result<Option<Entry>, NoMemory>
-        ensures { IfOk result (λ e. e ≡ first_in self.now name.now (map (λ k. k.items) scopes.now)) }
+    fn along(&self, alloc: Global, scopes: &[Scope], name: &[u8]) -> Result<Option<Entry>, NoMemory>
+        ensures { IfOk result (λ e. e ≡ first_in self.now name.now scopes.now) }
     {
         match scopes {
-            [scope, rest @ ..] => match self.at(alloc, scope.as_slice(), name)? {
+            [scope, rest @ ..] => match self.at(alloc, scope.get().as_slice(), name)? {
                 Some(entry) => Ok(Some(entry)),
                 None => self.along(alloc, rest, name),
             },

@@ -1,28 +1,59 @@
 //! Base orders: for each interface the scopes in which its names are found.
 
-ghost use Rattle.std.specs.Prelude.{◌≡◌, ◌∷◌, [], map, IfOk, OnOk, option_copied};
-ghost use Rattle.idl_names.specs.Names.{meaning_of};
+ghost use Rattle.std.specs.Prelude.{◌≡◌, ◌∷◌, [], IfOk, OnOk, option_copied};
+ghost use Rattle.std.specs.Str.{bytes_eq};
+ghost use Rattle.idl_names.specs.Names.{has, meaning_of};
 ghost use Rattle.corba_scopes.specs.Names.{put};
 ghost use Rattle.corba_scopes.specs.Finding.{added, joined};
 
-use indexmap::{IndexMap, IndexSet};
-use kit_base::NoMemory;
+use crate::around::Scope;
+use indexmap::IndexMap;
+use kit_base::{Listed, Name, NoMemory};
 use std::alloc::Global;
 use std::marker::Model;
+
+/// Octets from which on those of the second half are compared first.
+const LONG: usize = 32;
+
+/// Whether two scopes are the same. The ends are compared first, since long scopes differ there.
+#[tactic(auto, using(crate::proofs::Halves::halves_same))]
+fn is_same_scope(a: &[u8], b: &[u8]) -> bool
+    ensures { result ≡ bytes_eq a.now b.now }
+{
+    if a.len() < LONG || a.len() != b.len() {
+        return a == b;
+    }
+    let half = a.len() / 2;
+    let (a_front, a_end) = a.split_at(half);
+    let (b_front, b_end) = b.split_at(half);
+    is_same_scope(a_end, b_end) && a_front == b_front
+}
+
+/// Whether a scope is among others.
+fn has(scope: &[u8], scopes: &[Scope]) -> bool
+    ensures { result ≡ has scope.now scopes.now }
+{
+    for other in scopes {
+        if is_same_scope(scope, other.get().as_slice()) {
+            return true;
+        }
+    }
+    false
+}
 
 /// The base order of an interface: its own scope, and then those of its bases, each once.
 #[derive(Drop)]
 pub struct BaseOrder {
-    scopes: IndexSet<Vec<u8>>,
+    scopes: Listed<Scope>,
 }
 
 impl Model for BaseOrder {
-    ghost use Rattle.std.specs.Prelude.{List, ℕ, map};
+    ghost use Rattle.std.specs.Prelude.{List, ℕ};
     ghost use Rattle.std.specs.Coded.{codes};
 
     ghost Value = { List (List ℕ) };
 
-    ghost view = { λ s. map (λ k. k.items) s.scopes.keys };
+    ghost view = { λ s. s.scopes };
 }
 
 impl BaseOrder {
@@ -31,7 +62,7 @@ impl BaseOrder {
         ensures { IfOk result (λ line. line ≡ scope.now ∷ []) }
     {
         let mut line = BaseOrder {
-            scopes: IndexSet::new(alloc),
+            scopes: Listed::new(alloc),
         };
         line.add(alloc, scope)?;
         Ok(line)
@@ -41,31 +72,43 @@ impl BaseOrder {
     pub fn add(&mut self, alloc: Global, scope: &[u8]) -> Result<(), NoMemory>
         ensures { OnOk result (self.new ≡ added scope.now self.old) }
     {
-        let key = Vec::from_slice(alloc, scope)?;
-        self.scopes.insert(key)?;
+        if !has(scope, self.scopes()) {
+            let name = Name::from_slice(alloc, scope)?;
+            self.scopes.push(Scope::new(alloc, name)?)?;
+        }
+        Ok(())
+    }
+
+    /// Puts a scope of another order after the others, unless it is there.
+    fn share(&mut self, scope: &Scope) -> Result<(), NoMemory>
+        ensures { OnOk result (self.new ≡ added scope.now self.old) }
+    {
+        if !has(scope.get().as_slice(), self.scopes()) {
+            self.scopes.push(scope.share()?)?;
+        }
         Ok(())
     }
 
     /// Puts scopes after the others, without those that are there.
-    fn add_all(&mut self, alloc: Global, scopes: &[Vec<u8>]) -> Result<(), NoMemory>
-        ensures { OnOk result (self.new ≡ joined self.old (map (λ k. k.items) scopes.now)) }
+    fn share_all(&mut self, scopes: &[Scope]) -> Result<(), NoMemory>
+        ensures { OnOk result (self.new ≡ joined self.old scopes.now) }
     {
         for scope in scopes {
-            self.add(alloc, scope.as_slice())?;
+            self.share(scope)?;
         }
         Ok(())
     }
 
     /// Puts the scopes of another order after the others, without those that are there.
-    pub fn join(&mut self, alloc: Global, other: &BaseOrder) -> Result<(), NoMemory>
+    pub fn join(&mut self, other: &BaseOrder) -> Result<(), NoMemory>
         ensures { OnOk result (self.new ≡ joined self.old other.now) }
     {
-        self.add_all(alloc, other.scopes())
+        self.share_all(other.scopes())
     }
 
     /// The scopes, in order.
-    pub(crate) fn scopes(&self) -> &[Vec<u8>]
-        ensures { map (λ k. k.items) result.now ≡ self.now }
+    pub(crate) fn scopes(&self) -> &[Scope]
+        ensures { result.now ≡ self.now }
     {
         self.scopes.as_slice()
     }

@@ -146,7 +146,7 @@ impl Scopes {
         ensures { OnOk result (line.new ≡ with_base self.now base.now line.old) }
     {
         match self.lines.line(base) {
-            Some(other) => line.join(alloc, other),
+            Some(other) => line.join(other),
             None => line.add(alloc, base),
         }
     }
