@@ -1,5 +1,5 @@
 -- Names by prefixes and own parts: what they stand for is what full names do, by induction on the names.
-use Rattle.std.proofs.Common.{◌≡◌, ◌+◌, ◌<◌, ℕ, zero, suc, Bool, true, false, ◌&&◌, ◌||◌, ◌==◌, List, [], ◌∷◌, ◌++◌, map, length, drop, get_or, slice_get, position, unwrap_or, Option, Some, None, is_some, Result, Ok, Err, IfOk, refl, sym, ap, subst, ◌∙◌, arith, if◌then◌else◌, take-append-drop}
+use Rattle.std.proofs.Common.{◌≡◌, ◌+◌, ◌-◌, ◌<◌, ℕ, zero, suc, Bool, true, false, ◌&&◌, ◌||◌, ◌==◌, List, [], ◌∷◌, ◌++◌, map, length, take, drop, get_or, slice_get, position, unwrap_or, Option, Some, None, is_some, Result, Ok, Err, IfOk, refl, sym, ap, subst, ◌∙◌, arith, if◌then◌else◌, take-append-drop}
 use Rattle.std.specs.Prelude.{cond, option_map}
 use Rattle.std.specs.List.{list_any, position_from}
 use Rattle.std.specs.Map.{lookup}
@@ -16,7 +16,7 @@ use Rattle.indexmap.specs.IndexMap.{insert_entry}
 use Rattle.indexmap.specs.IndexSet.{insert_key}
 use Rattle.idl_names.specs.Names.{has, is_declared, meaning_of}
 use Rattle.idl_names.proofs.Tables.{append_map, push_map}
-use Rattle.corba_scopes.specs.Parted.{cut_within, cut, prefix_in, own_in, Key, same_key, held_at, number_of, full_of, by_names, IsKey, AllKeys, IsNumber, Puts}
+use Rattle.corba_scopes.specs.Parted.{cut_within, begins, cut_by, cut, prefix_in, own_in, Key, same_key, held_at, number_of, full_of, by_names, IsKey, AllKeys, IsNumber, Puts}
 
 -- ---- where a prefix ends
 
@@ -42,6 +42,20 @@ cut_here full zero m e h = absurd (omega (arith, e))
 cut_here full (suc n) m e h =
     let same : m ≡ n = omega (arith, e) in
     here_by (get_or full n 0 == 46) n (cut_within full n) (eq-eqb (get_or full n 0) 46 (subst (λ z. get_or full z 0 ≡ 46) same h))
+
+-- the first dot of the last octets is the end
+pub cut_near : (full front near : List ℕ) (k : ℕ) → front ≡ take (begins full) full → near ≡ drop (begins full) full
+    → Some k ≡ position (λ c. c == 46) near → length front + k + 1 ≡ cut full
+cut_near full front near k before after at =
+    ap (λ z. length z + k + 1) before
+    ∙ ap (cut_by (take (begins full) full)) (at ∙ ap (position (λ c. c == 46)) after)
+
+-- the last dot before these is the end
+pub cut_far : (full front near : List ℕ) (end : ℕ) → front ≡ take (begins full) full → near ≡ drop (begins full) full
+    → None ≡ position (λ c. c == 46) near → end ≡ cut_within front (length front) → end ≡ cut full
+cut_far full front near end before after none is =
+    is ∙ ap (λ z. cut_within z (length z)) before
+    ∙ ap (cut_by (take (begins full) full)) (none ∙ ap (position (λ c. c == 46)) after)
 
 -- ---- numbers of prefixes
 

@@ -1,5 +1,5 @@
 -- Full names in two parts: a prefix, which may be that of many names, and their own part after it.
-use Rattle.std.specs.Prelude.{◌≡◌, Bool, ◌&&◌, ◌==◌, ℕ, zero, suc, List, [], ◌∷◌, ◌++◌, map, take, drop, length, get_or, position, slice_get, Option, Some, if◌then◌else◌}
+use Rattle.std.specs.Prelude.{◌≡◌, Bool, ◌&&◌, ◌==◌, ℕ, ◌+◌, ◌-◌, zero, suc, List, [], ◌∷◌, ◌++◌, map, take, drop, length, get_or, position, slice_get, Option, Some, None, if◌then◌else◌}
 use Rattle.std.specs.Map.{lookup}
 use Rattle.std.specs.Str.{bytes_eq}
 
@@ -8,9 +8,18 @@ abbrev pub cut_within : List ℕ → ℕ → ℕ
 cut_within full zero = 0
 cut_within full (suc n) = if get_or full n 0 == 46 then suc n else cut_within full n
 
+-- where the last octets of a full name begin, in which its own part may have dots
+abbrev pub begins : List ℕ → ℕ
+begins full = length full - 1024
+
+-- how long the prefix is: up to the first dot of the last octets or, if these have none, to the last dot before them
+abbrev pub cut_by : List ℕ → Option ℕ → ℕ
+cut_by front (Some k) = length front + k + 1
+cut_by front None = cut_within front (length front)
+
 -- how long the prefix of a full name is
 abbrev pub cut : List ℕ → ℕ
-cut full = cut_within full (length full)
+cut full = cut_by (take (begins full) full) (position (λ c. c == 46) (drop (begins full) full))
 
 -- the prefix of a full name
 abbrev pub prefix_in : List ℕ → List ℕ

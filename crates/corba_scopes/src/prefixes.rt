@@ -1,26 +1,51 @@
 //! Prefixes by their numbers.
 
-ghost use Rattle.std.specs.Prelude.{◌≡◌, ◌≤◌, [], length, None, IfOk};
-ghost use Rattle.corba_scopes.specs.Parted.{cut, prefix_in, own_in, number_of, Puts};
+ghost use Rattle.std.specs.Prelude.{◌≡◌, ◌==◌, ◌≤◌, ◌<◌, [], length, position, None, IfOk, IfSome};
+ghost use Rattle.corba_scopes.specs.Parted.{cut_within, cut, prefix_in, own_in, number_of, Puts};
 
 use indexmap::IndexSet;
 use kit_base::NoMemory;
 use std::alloc::Global;
 use std::marker::Model;
 
-/// How long the prefix of a full name is: its last dot is the end of it.
-fn cut(full: &[u8]) -> usize
-    ensures value { result ≡ cut full.now }
-    ensures within { result ≤ length full.now }
+/// The octets of the longest own part that has dots. Of a long scope the scopes within it are no prefixes of their own.
+const NEAR: usize = 1024;
+
+/// Where the last dot ends, or 0.
+fn last_cut(front: &[u8]) -> usize
+    ensures value { result ≡ cut_within front.now (length front.now) }
+    ensures within { result ≤ length front.now }
 {
-    let mut end = full.len();
+    let mut end = front.len();
     while end > 0 {
-        if full[end - 1] == b'.' {
+        if front[end - 1] == b'.' {
             return end;
         }
         end -= 1;
     }
     0
+}
+
+/// The place of the first dot.
+fn dot_in(octets: &[u8]) -> Option<usize>
+    ensures value { result ≡ position (λ c. c == 46) octets.now }
+    ensures within { IfSome result (λ k. k < length octets.now) }
+{
+    octets.iter().position(|c| *c == b'.')
+}
+
+/// How long the prefix of a full name is: up to the first dot of the last octets or, if these have none, to the last
+/// dot before them.
+#[tactic(auto, using(crate::proofs::Parting::cut_near, crate::proofs::Parting::cut_far))]
+fn cut(full: &[u8]) -> usize
+    ensures value { result ≡ cut full.now }
+    ensures within { result ≤ length full.now }
+{
+    let (front, near) = full.split_at(full.len().saturating_sub(NEAR));
+    match dot_in(near) {
+        Some(k) => front.len() + k + 1,
+        None => last_cut(front),
+    }
 }
 
 /// The prefix and the own part of a full name.
