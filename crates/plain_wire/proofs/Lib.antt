@@ -2,7 +2,7 @@
 
 -- * Numbers, counts and lengths as they are read
 mod Words
--- * Where nothing is aligned there is no gap, and numbers fit their widths
+-- * Where nothing is aligned there is no gap
 mod Gaps
 -- The arm that is found among the arms of a choice, by induction on the arms
 pub mod Arms

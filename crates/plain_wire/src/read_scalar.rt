@@ -4,14 +4,14 @@ ghost use Rattle.std.specs.Prelude.{◌≡◌, ◌<◌, IfOk};
 ghost use Rattle.std.specs.Int.{w8, w16, w32, w64};
 ghost use Rattle.mint.specs.Kinds.{IsInRange};
 ghost use Rattle.mint.specs.Types.{number, label};
-ghost use Rattle.wire_def.specs.Scalars.{number_of, read_word, read_scalar};
+ghost use Rattle.wire_def.specs.Scalars.{full, number_of, read_word, read_scalar};
 ghost use Rattle.wire_def.specs.Lone.{read_lone};
 ghost use Rattle.plain_wire.specs.Widths.{width_in};
 ghost use Rattle.plain_wire.specs.Readers.{Reads, same, itself, nothing, read_gap, read_bits, read_here};
 
 use crate::cursor::{Cursor, Taken, stop};
 use crate::read_described::{item, label_item};
-use crate::widths::{Size, gap_of, has_sign, size_of};
+use crate::widths::{Size, full_of, gap_of, has_sign, size_of};
 use mint::fits::has_label;
 use mint::kind::Kind;
 use mint::node::Labels;
@@ -105,64 +105,14 @@ pub(crate) fn word_64(enc: Encoding, at: Cursor<'_>) -> Taken<'_, u64>
     Ok((n, Cursor { place, rest }))
 }
 
-/// The number that 8 bits are, in two's complement where it has a sign.
-fn number_8(signed: bool, m: u8) -> i128
-    ensures { result ≡ number_of signed w8 m }
+/// The number that the bits of a width are, in two's complement where it has a sign.
+fn number_in(signed: bool, size: Size, m: u64) -> i128
+    requires { m < full (width_in size) }
+    ensures { result ≡ number_of signed (width_in size) m }
 {
-    if signed {
-        if m < 128 {
-            i128::from(m)
-        } else {
-            i128::from(m) - 256
-        }
-    } else {
-        i128::from(m)
-    }
-}
-
-/// The number that 16 bits are, in two's complement where it has a sign.
-fn number_16(signed: bool, m: u16) -> i128
-    ensures { result ≡ number_of signed w16 m }
-{
-    if signed {
-        if m < 32768 {
-            i128::from(m)
-        } else {
-            i128::from(m) - 65536
-        }
-    } else {
-        i128::from(m)
-    }
-}
-
-/// The number that 32 bits are, in two's complement where it has a sign.
-fn number_32(signed: bool, m: u32) -> i128
-    ensures { result ≡ number_of signed w32 m }
-{
-    if signed {
-        if m < 2147483648 {
-            i128::from(m)
-        } else {
-            i128::from(m) - 4294967296
-        }
-    } else {
-        i128::from(m)
-    }
-}
-
-/// The number that 64 bits are, in two's complement where it has a sign.
-fn number_64(signed: bool, m: u64) -> i128
-    ensures { result ≡ number_of signed w64 m }
-{
-    if signed {
-        if m < 9223372036854775808 {
-            i128::from(m)
-        } else {
-            i128::from(m) - 18446744073709551616
-        }
-    } else {
-        i128::from(m)
-    }
+    let n = i128::from(m);
+    let full = full_of(size);
+    if signed && 2 * n >= full { n - full } else { n }
 }
 
 /// A number of a width.
@@ -172,19 +122,19 @@ fn bits(enc: Encoding, signed: bool, size: Size, at: Cursor<'_>) -> Taken<'_, i1
     match size {
         Size::One => {
             let (m, next) = word_8(enc, at)?;
-            Ok((number_8(signed, m), next))
+            Ok((number_in(signed, size, u64::from(m)), next))
         }
         Size::Two => {
             let (m, next) = word_16(enc, at)?;
-            Ok((number_16(signed, m), next))
+            Ok((number_in(signed, size, u64::from(m)), next))
         }
         Size::Four => {
             let (m, next) = word_32(enc, at)?;
-            Ok((number_32(signed, m), next))
+            Ok((number_in(signed, size, u64::from(m)), next))
         }
         Size::Eight => {
             let (m, next) = word_64(enc, at)?;
-            Ok((number_64(signed, m), next))
+            Ok((number_in(signed, size, m), next))
         }
     }
 }

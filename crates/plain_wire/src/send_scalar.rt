@@ -1,7 +1,6 @@
 //! Numbers, labels and counts as octets (RFC 4506 sections 4.1 to 4.5).
 
-ghost use Rattle.std.specs.Prelude.{◌≡◌, ◌≤◌, ◌<◌, ◌+◌, pos, negsuc, ◌≤ℤ◌, ◌<ℤ◌, length, replicate, suc};
-ghost use Rattle.std.specs.Int.{w8, w16, w32, w64};
+ghost use Rattle.std.specs.Prelude.{◌≡◌, ◌≤◌, ◌<◌, ◌+◌, pos, length, replicate, suc};
 ghost use Rattle.mint.specs.Types.{number, label, row_of, scalar_of, text};
 ghost use Rattle.mint.specs.Typed.{IsScalar};
 ghost use Rattle.mint.specs.Kinds.{Allows};
@@ -13,7 +12,7 @@ ghost use Rattle.plain_wire.specs.Sending.{Appends, IsNear, aligned};
 ghost use Rattle.plain_wire.specs.Widths.{width_in, FitsWidth};
 
 use crate::send_described::{put_descriptor, put_item};
-use crate::widths::{Size, gap_of, size_of};
+use crate::widths::{Size, full_of, gap_of, octets_in, size_of};
 use kit_base::{NoMemory, Octets};
 use mint::kind::{Count, Kind};
 use mint::node::{Labels, Tag};
@@ -39,48 +38,17 @@ pub(crate) fn put_zeros(count: usize, place: usize, out: &mut Octets) -> Result<
     put(place, &zeros[..count], out)
 }
 
-/// A number modulo 2 to the 64.
-fn residue_64(n: i128) -> u64
-    requires low { negsuc 9223372036854775807 ≤ℤ n }
-    requires high { n <ℤ pos 18446744073709551616 }
-    ensures { result ≡ residue w64 n }
+/// A number modulo 2 to the bits of a width.
+#[tactic(auto, using(crate::proofs::Gaps::widths))]
+fn residue_in(size: Size, n: i128) -> u64
+    requires { FitsWidth (width_in size) n }
+    ensures { result ≡ residue (width_in size) n }
 {
     if n < 0 {
-        (n + 18446744073709551616) as u64
+        (n + full_of(size)) as u64
     } else {
         n as u64
     }
-}
-
-/// A number modulo 2 to the 32.
-fn residue_32(n: i128) -> u32
-    requires low { negsuc 2147483647 ≤ℤ n }
-    requires high { n <ℤ pos 4294967296 }
-    ensures { result ≡ residue w32 n }
-{
-    if n < 0 {
-        (n + 4294967296) as u32
-    } else {
-        n as u32
-    }
-}
-
-/// A number modulo 2 to the 16.
-fn residue_16(n: i128) -> u16
-    requires low { negsuc 32767 ≤ℤ n }
-    requires high { n <ℤ pos 65536 }
-    ensures { result ≡ residue w16 n }
-{
-    if n < 0 { (n + 65536) as u16 } else { n as u16 }
-}
-
-/// A number modulo 2 to the 8.
-fn residue_8(n: i128) -> u8
-    requires low { negsuc 127 ≤ℤ n }
-    requires high { n <ℤ pos 256 }
-    ensures { result ≡ residue w8 n }
-{
-    if n < 0 { (n + 256) as u8 } else { n as u8 }
 }
 
 /// Puts a number in its octets, in the order of the encoding.
@@ -97,19 +65,11 @@ fn put_word(
     ensures { Appends out.old out.new place
         (number_octets enc (width_in size) (residue (width_in size) n.now)) result }
 {
+    let m = residue_in(size, *n);
+    let many = octets_in(size);
     match enc {
-        Encoding::Xdr | Encoding::CdrBig => match size {
-            Size::One => put(place, &residue_8(*n).to_be_bytes(), out),
-            Size::Two => put(place, &residue_16(*n).to_be_bytes(), out),
-            Size::Four => put(place, &residue_32(*n).to_be_bytes(), out),
-            Size::Eight => put(place, &residue_64(*n).to_be_bytes(), out),
-        },
-        _ => match size {
-            Size::One => put(place, &residue_8(*n).to_le_bytes(), out),
-            Size::Two => put(place, &residue_16(*n).to_le_bytes(), out),
-            Size::Four => put(place, &residue_32(*n).to_le_bytes(), out),
-            Size::Eight => put(place, &residue_64(*n).to_le_bytes(), out),
-        },
+        Encoding::Xdr | Encoding::CdrBig => put(place, &m.to_be_bytes()[8 - many..], out),
+        _ => put(place, &m.to_le_bytes()[..many], out),
     }
 }
 

@@ -1,9 +1,10 @@
 //! How many octets a number has, and how many are before it.
 
-ghost use Rattle.std.specs.Prelude.{◌≡◌, ◌<◌};
+ghost use Rattle.std.specs.Prelude.{◌≡◌, ◌<◌, pos};
+ghost use Rattle.std.specs.Int.{byte_len};
 ghost use Rattle.mint.specs.Types.{number, row_of, text};
 ghost use Rattle.mint.specs.declared.kind.Count.{Count};
-ghost use Rattle.wire_def.specs.Scalars.{gap, alignment_of, is_signed, width_of};
+ghost use Rattle.wire_def.specs.Scalars.{full, gap, alignment_of, is_signed, width_of};
 ghost use Rattle.wire_def.specs.Arrays.{trailing, ill_ended};
 ghost use Rattle.plain_wire.specs.Rows.{IsWay, first_gap};
 ghost use Rattle.plain_wire.specs.Widths.{width_in};
@@ -32,6 +33,32 @@ pub(crate) enum Way {
     Swapped,
     /// Each by itself.
     Single,
+}
+
+/// How many octets a size stands for.
+#[inline(always)]
+pub(crate) fn octets_in(size: Size) -> usize
+    ensures { result ≡ byte_len (width_in size) }
+{
+    match size {
+        Size::One => 1,
+        Size::Two => 2,
+        Size::Four => 4,
+        Size::Eight => 8,
+    }
+}
+
+/// One more than the greatest number of so many octets.
+#[inline(always)]
+pub(crate) fn full_of(size: Size) -> i128
+    ensures { result ≡ pos (full (width_in size)) }
+{
+    match size {
+        Size::One => 256,
+        Size::Two => 65536,
+        Size::Four => 4294967296,
+        Size::Eight => 18446744073709551616,
+    }
 }
 
 /// The octets of a kind's numbers over an encoding.
