@@ -7,6 +7,7 @@ use Rattle.std.proofs.lemmas.Slice.Eq.{bytes_eq-Decides}
 use Rattle.mint.specs.declared.kind.Kind.{Kind}
 use Rattle.mint.specs.declared.node.Node.{Node}
 use Rattle.mint.specs.Kinds.{width}
+use Rattle.mint.specs.Row.{image_of}
 use Rattle.mint.specs.Types.{IsTable}
 use Rattle.mint.specs.Values.{Val, arm, count, arm_in}
 use Rattle.wire_def.specs.declared.head.Head.{Head}
@@ -14,7 +15,7 @@ use Rattle.cast_stub.specs.declared.put.Put.{Put}
 use Rattle.cast_stub.specs.Parts.{on_some, at, elements_in, length_in}
 use Rattle.cast_stub.specs.Puts.{filled}
 use Rattle.cast_stub.specs.Block.{Block, stop, ensure, ensure_row, align, chunk, row_copy, row_swap, row_wide, each, switch, if_there, call, patch, Cases, no_default, default, case}
-use Rattle.cast_stub.specs.Steps.{Room, Pad, Stored, Patched, Steps, both, over, if_present, is_width, Calls, steps, case_steps, align_steps, chunk_steps, row_room, copy_steps, swap_steps, wide_steps}
+use Rattle.cast_stub.specs.Steps.{Room, Pad, Stored, Patched, Steps, both, over, if_present, is_width, Calls, steps, case_steps, align_steps, chunk_steps, row_room, swapped, copy_steps, swap_steps, wide_steps}
 use Rattle.stub_flat.specs.Places.{Spot, node_of, spot_at, element, row_kind, has_length, greatest, arm_spot, has_case, rest_spot}
 use Rattle.stub_flat.specs.Places as place
 use Rattle.stub_flat.specs.Residues.{Residues, every, sum, moved, aligned, closed}
@@ -31,7 +32,7 @@ use Rattle.stub_cover.proofs.Rooms.{some_same, mapped_of, tested_of, Holds, with
 use Rattle.stub_cover.proofs.Lengths.{length_elements, few}
 use Rattle.stub_cover.proofs.Quiet.{quiet}
 use Rattle.stub_cover.proofs.Looping.{Ends, After, loop_leads}
-use Rattle.stub_cover.proofs.Rows.{Far, copy_leads, swap_leads, wide_leads}
+use Rattle.stub_cover.proofs.Rows.{Far, image_long, swapped_long, block_leads, wide_leads}
 use Rattle.std.proofs.lemmas.Bool.{or_right, or_left}
 
 -- ---- credits
@@ -162,15 +163,15 @@ module _ (N : List Node) (table : IsTable N) (c : Calls) (h : Head) (Known : Cal
         let node : Option Node = node_of N (spot_at N i s) in
         let k = opened (run_row node (option_map width (row_kind node)) (unit_of i cr) R) (run N s r None) S e in
         step (copy_steps i v) (steps c h r v) k.0 S 0 (closed (moved (width_of (row_kind node)))) (leaves N s r) p a
-        (copy_leads N node (unit_of i cr) i v (owed cr v) p a (λ y is. part_of i s v y typed is) (owed_at i cr v)
-        (row_kind node) R k.0 refl k.1 m)
+        (block_leads N node (unit_of i cr) i v (owed cr v) p a (λ y is. part_of i s v y typed is) (owed_at i cr v)
+        image_of image_long (row_kind node) R k.0 refl k.1 m)
         (λ q b w. covered r s None k.0 S v k.2 known typed q b w)
     covered (row_swap i r) s cr R S v e known typed p a m =
         let node : Option Node = node_of N (spot_at N i s) in
         let k = opened (run_row node (option_map width (row_kind node)) (unit_of i cr) R) (run N s r None) S e in
         step (swap_steps i v) (steps c h r v) k.0 S 0 (closed (moved (width_of (row_kind node)))) (leaves N s r) p a
-        (swap_leads N node (unit_of i cr) i v (owed cr v) p a (λ y is. part_of i s v y typed is) (owed_at i cr v)
-        (row_kind node) R k.0 refl k.1 m)
+        (block_leads N node (unit_of i cr) i v (owed cr v) p a (λ y is. part_of i s v y typed is) (owed_at i cr v)
+        swapped swapped_long (row_kind node) R k.0 refl k.1 m)
         (λ q b w. covered r s None k.0 S v k.2 known typed q b w)
     covered (row_wide i o r) s cr R S v e known typed p a m =
         let node : Option Node = node_of N (spot_at N i s) in

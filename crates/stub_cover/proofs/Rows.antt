@@ -12,7 +12,7 @@ use Rattle.wire_def.specs.declared.head.Order.{Order}
 use Rattle.wire_def.specs.Orders.{in_order}
 use Rattle.cast_stub.specs.Parts.{on_some, at, length_in}
 use Rattle.cast_stub.specs.Puts.{word, half_of, wrapped}
-use Rattle.cast_stub.specs.Steps.{Step, Stored, Widened, Copied, Steps, both, over, swapped, wide, copy_steps, swap_steps, wide_steps}
+use Rattle.cast_stub.specs.Steps.{Step, Stored, Widened, Copied, Steps, both, over, swapped, wide, wide_steps}
 use Rattle.stub_flat.specs.Places.{row_kind, greatest}
 use Rattle.stub_flat.specs.Residues.{moved, closed}
 use Rattle.stub_flat.specs.Leaves.{width_of}
@@ -30,7 +30,7 @@ use Rattle.cast_stub.proofs.Filled.{opened}
 
 -- ---- how many octets
 
-image_long : (k : Kind) (ns : List ℤ) → length (image_of k ns) ≡ length ns * width k
+pub image_long : (k : Kind) (ns : List ℤ) → length (image_of k ns) ≡ length ns * width k
 image_long k [] = let none : 0 ≡ 0 * width k = omega arith in none
 image_long k (n ∷ ns) =
     let first = octets_many k n in
@@ -38,7 +38,7 @@ image_long k (n ∷ ns) =
     let all = length-append (octets_of k n) (image_of k ns) in
     omega (arith, first, rest, all)
 
-swapped_long : (k : Kind) (ns : List ℤ) → length (swapped k ns) ≡ length ns * width k
+pub swapped_long : (k : Kind) (ns : List ℤ) → length (swapped k ns) ≡ length ns * width k
 swapped_long k [] = let none : 0 ≡ 0 * width k = omega arith in none
 swapped_long k (n ∷ ns) =
     let first : length (reverse (octets_of k n)) ≡ width k = length-reverse (octets_of k n) ∙ octets_many k n in
@@ -155,24 +155,16 @@ module _ (N : List Node) (node : Option Node) (unit : Option ℕ) (q : List ℕ)
       (row_far node w (length r.1) unit R S e (λ m most. few N node y.0 (length r.1) m (typed y.0 y.1) n most) x p a
       (λ u is'. owed u (length r.1) is' (ap (λ (o : Option Val). on_some o length_in) y.1 ∙ n)) h))
 
-  copied_reaches : (Q : ℕ → ℕ → Type 0) (os : List ℕ) (l : ℕ) → length os ≡ l → Far Q p a l → Reaches Q (Some (Copied os ∷ [])) p a
-  copied_reaches Q os l e h = reaches_some Q (Copied os ∷ []) p a (subst (Far Q p a) (sym e) h)
-
-  pub copy_leads : (k : Option Kind) (R S : Rooms) → row_kind node ≡ k → run_row node (option_map width k) unit R ≡ Some S
-      → Holds R x p a → Reaches (After S (closed (moved (width_of k))) p) (copy_steps q v) p a
-  copy_leads None R S is e h = absurd cc
-  copy_leads (Some k) R S is e h =
-      of_row (width k) R S (λ r. Some (Copied (image_of r.0 r.1) ∷ [])) e h (λ y r t there far.
-      copied_reaches (After S (closed (moved (width k))) p) (image_of r.0 r.1) (length r.1 * width k)
-      (image_long r.0 r.1 ∙ ap (λ (j : Kind). length r.1 * width j) (kind_known N node y r k t there is)) far)
-
-  pub swap_leads : (k : Option Kind) (R S : Rooms) → row_kind node ≡ k → run_row node (option_map width k) unit R ≡ Some S
-      → Holds R x p a → Reaches (After S (closed (moved (width_of k))) p) (swap_steps q v) p a
-  swap_leads None R S is e h = absurd cc
-  swap_leads (Some k) R S is e h =
-      of_row (width k) R S (λ r. Some (Copied (swapped r.0 r.1) ∷ [])) e h (λ y r t there far.
-      copied_reaches (After S (closed (moved (width k))) p) (swapped r.0 r.1) (length r.1 * width k)
-      (swapped_long r.0 r.1 ∙ ap (λ (j : Kind). length r.1 * width j) (kind_known N node y r k t there is)) far)
+  -- the octets of a row as one block, whatever their order
+  pub block_leads : (f : Kind → List ℤ → List ℕ) → ((k : Kind) (ns : List ℤ) → length (f k ns) ≡ length ns * width k)
+      → (k : Option Kind) (R S : Rooms) → row_kind node ≡ k → run_row node (option_map width k) unit R ≡ Some S → Holds R x p a
+      → Reaches (After S (closed (moved (width_of k))) p) (on_some (on_some (at q v) row_in) (λ r. Some (Copied (f r.0 r.1) ∷ []))) p a
+  block_leads f long None R S is e h = absurd cc
+  block_leads f long (Some k) R S is e h =
+      let Q = After S (closed (moved (width k))) p in
+      of_row (width k) R S (λ r. Some (Copied (f r.0 r.1) ∷ [])) e h (λ y r t there far.
+      reaches_some Q (Copied (f r.0 r.1) ∷ []) p a
+      (subst (Far Q p a) (sym (long r.0 r.1 ∙ ap (λ (j : Kind). length r.1 * width j) (kind_known N node y r k t there is))) far))
 
   pub wide_leads : (o : Order) (k : Option Kind) (R S : Rooms) → run_row node (option_map (λ j. 4) k) unit R ≡ Some S
       → Holds R x p a → Reaches (After S (closed (moved 4)) p) (wide_steps q o v) p a
