@@ -54,75 +54,37 @@ if_lt n most m r = by (nat_lt n most) refl where
 
 -- ---- numbers below 0
 
-turned_one : (n m : ℕ) (o : Order) → n < 128 → 255 - n ≡ m → spelled (Some (negsuc n)) 1 o ≡ in_order o 1 m
-turned_one n m o lt e = by o where
-  at_0 : 255 - byte_at 0 n ≡ byte_at 0 m
-  at_0 = omega arith
+-- whether an octet of a number, turned, is that of another
+abbrev Turned : ℕ → ℕ → ℕ → Type 0
+Turned n m i = 255 - byte_at i n ≡ byte_at i m
 
-  by : (o : Order) → spelled (Some (negsuc n)) 1 o ≡ in_order o 1 m
-  by Little = rw at_0 refl
-  by Big = rw at_0 refl
+-- what holds of either order
+by_order : (P : Order → Type 0) → P Little → P Big → (o : Order) → P o
+by_order P l b Little = l
+by_order P l b Big = b
+
+turned_one : (n m : ℕ) (o : Order) → n < 128 → 255 - n ≡ m → spelled (Some (negsuc n)) 1 o ≡ in_order o 1 m
+turned_one n m o lt e =
+    let t : Turned n m 0 = omega arith in
+    by_order (λ q. spelled (Some (negsuc n)) 1 q ≡ in_order q 1 m) (rw t refl) (rw t refl) o
 
 turned_two : (n m : ℕ) (o : Order) → n < 32768 → 65535 - n ≡ m → spelled (Some (negsuc n)) 2 o ≡ in_order o 2 m
-turned_two n m o lt e = by o where
-  at_0 : 255 - byte_at 0 n ≡ byte_at 0 m
-  at_0 = omega arith
-
-  at_1 : 255 - byte_at 1 n ≡ byte_at 1 m
-  at_1 = omega arith
-
-  by : (o : Order) → spelled (Some (negsuc n)) 2 o ≡ in_order o 2 m
-  by Little = rw (at_0, at_1) refl
-  by Big = rw (at_0, at_1) refl
+turned_two n m o lt e =
+    let t : Turned n m 0 × Turned n m 1 = (omega arith, omega arith) in
+    by_order (λ q. spelled (Some (negsuc n)) 2 q ≡ in_order q 2 m) (rw (t.0, t.1) refl) (rw (t.0, t.1) refl) o
 
 turned_four : (n m : ℕ) (o : Order) → n < 2147483648 → 4294967295 - n ≡ m → spelled (Some (negsuc n)) 4 o ≡ in_order o 4 m
-turned_four n m o lt e = by o where
-  at_0 : 255 - byte_at 0 n ≡ byte_at 0 m
-  at_0 = omega arith
-
-  at_1 : 255 - byte_at 1 n ≡ byte_at 1 m
-  at_1 = omega arith
-
-  at_2 : 255 - byte_at 2 n ≡ byte_at 2 m
-  at_2 = omega arith
-
-  at_3 : 255 - byte_at 3 n ≡ byte_at 3 m
-  at_3 = omega arith
-
-  by : (o : Order) → spelled (Some (negsuc n)) 4 o ≡ in_order o 4 m
-  by Little = rw (at_0, at_1, at_2, at_3) refl
-  by Big = rw (at_0, at_1, at_2, at_3) refl
+turned_four n m o lt e =
+    let t : Turned n m 0 × Turned n m 1 × Turned n m 2 × Turned n m 3 = (omega arith, omega arith, omega arith, omega arith) in
+    by_order (λ q. spelled (Some (negsuc n)) 4 q ≡ in_order q 4 m) (rw (t.0, t.1, t.2, t.3) refl) (rw (t.0, t.1, t.2, t.3) refl) o
 
 turned_eight : (n m : ℕ) (o : Order) → n < 9223372036854775808 → 18446744073709551615 - n ≡ m
     → spelled (Some (negsuc n)) 8 o ≡ in_order o 8 m
-turned_eight n m o lt e = by o where
-  at_0 : 255 - byte_at 0 n ≡ byte_at 0 m
-  at_0 = omega arith
-
-  at_1 : 255 - byte_at 1 n ≡ byte_at 1 m
-  at_1 = omega arith
-
-  at_2 : 255 - byte_at 2 n ≡ byte_at 2 m
-  at_2 = omega arith
-
-  at_3 : 255 - byte_at 3 n ≡ byte_at 3 m
-  at_3 = omega arith
-
-  at_4 : 255 - byte_at 4 n ≡ byte_at 4 m
-  at_4 = omega arith
-
-  at_5 : 255 - byte_at 5 n ≡ byte_at 5 m
-  at_5 = omega arith
-
-  at_6 : 255 - byte_at 6 n ≡ byte_at 6 m
-  at_6 = omega arith
-
-  at_7 : 255 - byte_at 7 n ≡ byte_at 7 m
-  at_7 = omega arith
-
-  by : (o : Order) → spelled (Some (negsuc n)) 8 o ≡ in_order o 8 m
-  by Little = rw (at_0, at_1, at_2, at_3, at_4, at_5, at_6, at_7) refl
-  by Big = rw (at_0, at_1, at_2, at_3, at_4, at_5, at_6, at_7) refl
+turned_eight n m o lt e =
+    let t : Turned n m 0 × Turned n m 1 × Turned n m 2 × Turned n m 3 = (omega arith, omega arith, omega arith, omega arith) in
+    let u : Turned n m 4 × Turned n m 5 × Turned n m 6 × Turned n m 7 = (omega arith, omega arith, omega arith, omega arith) in
+    by_order (λ q. spelled (Some (negsuc n)) 8 q ≡ in_order q 8 m)
+    (rw (t.0, t.1, t.2, t.3, u.0, u.1, u.2, u.3) refl) (rw (t.0, t.1, t.2, t.3, u.0, u.1, u.2, u.3) refl) o
 
 -- ---- a number that fits
 
