@@ -52,16 +52,34 @@ good x = Ok x
 same_heading : (x y : Heading) → good x ≡ good y → x ≡ y
 same_heading x y e = cc
 
-pub is_expected : (w : HeadKind) (n : ℕ) (o : List ℕ) (h : Heading) → judged w n o ≡ Ok h → expected w h.message_type ≡ true
+-- what a header that is right passes, in the order of its items
+record IsRight (w : HeadKind) (n : ℕ) (o : List ℕ) (h : Heading) : Type 0 where
+  magic : has_magic o ≡ true
+  version : has_version o ≡ true
+  order : has_order o ≡ true
+  kind : expected w (slice_index o 7) ≡ true
+  size : (size_in o == n - 12) ≡ true
+  same : header_of o ≡ h
+
+right : (w : HeadKind) (n : ℕ) (o : List ℕ) (h : Heading) → judged w n o ≡ Ok h → IsRight w n o h
 unfolding judged
-is_expected w n o h e =
+right w n o h e =
     let magic = passed (has_magic o) _ Magic h e in
     let version = passed (has_version o) _ Version h magic.1 in
     let order = passed (has_order o) _ fault.Order h version.1 in
     let kind = passed (expected w (slice_index o 7)) _ Type_ h order.1 in
     let size = passed (size_in o == n - 12) _ Size h kind.1 in
-    let same : header_of o ≡ h = same_heading (header_of o) h size.1 in
-    rw (← same) kind.0
+    record {
+      magic = magic.0;
+      version = version.0;
+      order = order.0;
+      kind = kind.0;
+      size = size.0;
+      same = same_heading (header_of o) h size.1;
+    }
+
+pub is_expected : (w : HeadKind) (n : ℕ) (o : List ℕ) (h : Heading) → judged w n o ≡ Ok h → expected w h.message_type ≡ true
+is_expected w n o h e = let r = right w n o h e in rw (← r.same) r.kind
 
 pub asks_three : (m : ℕ) → expected Asks (suc m) ≡ true → m ≡ 2
 asks_three m e = elim (or_cases (suc m == 0) (suc m == 3) e) [
@@ -80,15 +98,7 @@ pub has_one : (o : List ℕ) → has_version o ≡ true → IsMinor (slice_index
 has_one o h = right_true (slice_index o 4 == 1) (has_minor (slice_index o 5)) h
 
 pub is_minor : (w : HeadKind) (n : ℕ) (o : List ℕ) (h : Heading) → judged w n o ≡ Ok h → IsMinor h.minor
-unfolding judged
-is_minor w n o h e =
-    let magic = passed (has_magic o) _ Magic h e in
-    let version = passed (has_version o) _ Version h magic.1 in
-    let order = passed (has_order o) _ fault.Order h version.1 in
-    let kind = passed (expected w (slice_index o 7)) _ Type_ h order.1 in
-    let size = passed (size_in o == n - 12) _ Size h kind.1 in
-    let same : header_of o ≡ h = same_heading (header_of o) h size.1 in
-    rw (← same) (has_one o version.0)
+is_minor w n o h e = let r = right w n o h e in rw (← r.same) (has_one o r.version)
 
 -- there are two
 pub minors : (m : ℕ) → IsMinor m → (m ≡ 0) ⊎ (m ≡ 2)
@@ -99,12 +109,7 @@ minors m h = elim (or_cases (m == 0) (m == 2) h) [ inl none ↦ inl (eqb-true _ 
 pub asked_once : (n : ℕ) (o : List ℕ) (h : Heading) → h.message_type ≡ 0 → judged Asks n o ≡ Ok h → judged Requests n o ≡ Ok h
 unfolding judged
 asked_once n o h zero e =
-    let magic = passed (has_magic o) _ Magic h e in
-    let version = passed (has_version o) _ Version h magic.1 in
-    let order = passed (has_order o) _ fault.Order h version.1 in
-    let kind = passed (expected Asks (slice_index o 7)) _ Type_ h order.1 in
-    let size = passed (size_in o == n - 12) _ Size h kind.1 in
-    let same : header_of o ≡ h = same_heading (header_of o) h size.1 in
-    let type : slice_index o 7 ≡ 0 = ap (λ (x : Heading). x.message_type) same ∙ zero in
+    let r = right Asks n o h e in
+    let type : slice_index o 7 ≡ 0 = ap (λ (x : Heading). x.message_type) r.same ∙ zero in
     let wanted : expected Requests (slice_index o 7) ≡ true = ap (expected Requests) type in
-    rw (magic.0, version.0, order.0, wanted, size.0) size.1
+    rw (r.magic, r.version, r.order, wanted, r.size) (ap good r.same)
