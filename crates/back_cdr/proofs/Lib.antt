@@ -1,6 +1,6 @@
 -- The proofs, each after those that it uses; * marks those that the proofs of functions use.
 
--- * Each operation of a bound unit is one that requests name, and they are few, by induction on the interfaces
+-- * Each operation of a bound unit is one that requests name
 pub mod Counting
 -- * No name of a bound unit is too long, by induction on the interfaces; so a head has fewer than 2^32 octets
 pub mod Short

@@ -1,19 +1,17 @@
--- Each operation of a bound unit is a routine, they are few, and ids have 31 bits, by induction on the interfaces.
-use Rattle.std.proofs.Common.{◌≡◌, ◌+◌, ◌*◌, ◌<◌, ◌≤◌, ◌^◌, ℕ, zero, suc, Bool, true, List, [], ◌∷◌, ◌++◌, get_or, map, length, length-append, append-nil, refl, ap, sym, ◌∙◌, arith}
+-- Each operation of a bound unit is a routine, and ids have 31 bits, by induction on the interfaces.
+use Rattle.std.proofs.Common.{◌≡◌, ◌+◌, ◌<◌, ◌≤◌, ◌^◌, ℕ, zero, suc, Bool, true, List, [], ◌∷◌, ◌++◌, get_or, map, length, append-nil, ap, sym, ◌∙◌, arith}
 use Rattle.std.specs.Prelude.{◌&&◌, nat_le, nat_lt}
 use Rattle.std.specs.List.{list_all, AllByRecursion}
 use Rattle.std.proofs.lemmas.Bool.{and_parts, leb-true, ltb-true}
 use Rattle.std.proofs.lemmas.List.{length-map}
 use Rattle.wire_def.specs.declared.encoding.Back.TheVariants as back
-use Rattle.aoi.specs.declared.interfaces.Interface.{Interface}
 use Rattle.kit_base.specs.Limits.{most_raises}
 use Rattle.aoi.specs.Shapes.{Shape}
 use Rattle.aoi.specs.Sound.{are_sound, or_void, is_sound_type, are_sound_types}
-use Rattle.aoi.specs.Plain.{PlainInterface, PlainOperation, PlainUnit, plain_interface, plain_operation, plain_shapes, is_sound_plain_raise, is_sound_plain_operation, is_sound_plain_interface, IsSoundPlain}
-use Rattle.aoi.specs.Units.{AreApart}
+use Rattle.aoi.specs.Plain.{PlainInterface, PlainOperation, PlainUnit, plain_shapes, is_sound_plain_raise, is_sound_plain_operation, is_sound_plain_interface, IsSoundPlain}
 use Rattle.pres.specs.Bindings.{Binding, IsBinding}
-use Rattle.pres.specs.Faces.{Face, faces}
-use Rattle.pres.specs.Offers.{operations, offer, offer_at, offers, offers_from, type_faces}
+use Rattle.pres.specs.Offers.{operations}
+use Rattle.pres.proofs.Counting as pres
 use Rattle.back_mach.specs.declared.routines.Routine.{Routine}
 use Rattle.back_mach.specs.Routines.{no_routine, routine_in, routines_in, routines}
 
@@ -21,34 +19,10 @@ use Rattle.back_mach.specs.Routines.{no_routine, routine_in, routines_in, routin
 pub own_alone : (i : PlainInterface) → operations back.Mach i ≡ i.ops
 own_alone i = append-nil i.ops
 
-length-offers : (fs : List Face) (k : ℕ) (is : List PlainInterface) → length (offers_from fs back.Mach k is) ≡ length (routines is)
-length-offers fs k [] = refl
-length-offers fs k (i ∷ is) =
-    let own = length-map (operations back.Mach i) (offer fs back.Mach k) in
-    let all = length-append (map (offer fs back.Mach k) (operations back.Mach i)) (offers_from fs back.Mach (suc k) is) in
-    let named = length-map i.ops (routine_in i) in
-    let whole = length-append (routines_in i) (routines is) in
-    omega (arith, own, all, named, whole, ap length (own_alone i), length-offers fs (suc k) is)
-
 pub counted : (b : Binding) → IsBinding b → b.back ≡ back.Mach → length (routines b.unit.interfaces) ≡ length b.ops
 counted b stands mach =
-    sym (length-offers (type_faces b.unit) 0 b.unit.interfaces)
-    ∙ ap (λ e. length (offers b.unit e)) (sym mach) ∙ ap length (sym stands.offered) ∙ length-map b.ops (offer_at (faces b.nodes b.shapes))
-
--- the operations of interfaces that are apart are few
-pub few : (is : List Interface) → AreApart is → length (routines (map plain_interface is)) ≤ 257 * length is
-few [] apart = omega arith
-few (i ∷ is) apart =
-    let j : PlainInterface = plain_interface i in
-    let own : length j.ops ≡ length i.ops = length-map i.ops plain_operation in
-    omega (
-      arith,
-      own,
-      length-map j.ops (routine_in j),
-      length-append (routines_in j) (routines (map plain_interface is)),
-      apart.1,
-      few is apart.2,
-    )
+    pres.counted routines_in b stands (λ i.
+    length-map i.ops (routine_in i) ∙ ap length (sym (own_alone i)) ∙ ap (λ k. length (operations k i)) (sym mach))
 
 -- ---- ids
 

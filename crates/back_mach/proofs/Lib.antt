@@ -8,7 +8,7 @@ pub mod Replies
 pub mod Steps
 -- * The laws, over each way
 pub mod Lawful
--- * Each operation of a bound unit is a routine, they are few, and ids have 31 bits, by induction on the interfaces
+-- * Each operation of a bound unit is a routine, and ids have 31 bits, by induction on the interfaces
 pub mod Counting
 -- * The operation that a request names is there, and is the one of its id
 pub mod Named

@@ -12,7 +12,7 @@ pub mod Replies
 pub mod Lawful
 -- * Pads, octet by octet
 pub mod Steps
--- * How many operations there are, by induction on the interfaces
+-- * Each operation of a bound unit is a procedure, and its number is that of its place
 pub mod Counting
 -- * The procedure of an operation is found in the operation's own interface, by induction on the interfaces
 pub mod Homes

@@ -40,3 +40,5 @@ pub mod Fielded
 pub mod Passing
 -- * Exceptions that are found by their names, by induction on the exceptions and on the operations
 pub mod Found
+-- How many operations a binding has, by induction on the interfaces
+pub mod Counting

@@ -1,6 +1,4 @@
 -- The proofs, each after those that it uses; * marks those that the proofs of functions use.
 
--- * The operations of a binding are few, by induction on the interfaces
-pub mod Counting
 -- * Operations of one interface and name have one type in each binding, by induction on the interfaces
 pub mod Pairing

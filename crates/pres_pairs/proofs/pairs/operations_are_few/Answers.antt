@@ -1,6 +1,6 @@
 use Rattle.std.proofs.Common.{ap}
 use Rattle.aoi.specs.Plain.{PlainUnit}
-use Rattle.pres_pairs.proofs.Counting.{operations_few}
+use Rattle.pres.proofs.Counting.{operations_few}
 use Rattle.pres_pairs.proofs.pairs.operations_are_few.Goals as goal
 
 pub returns : goal.returns
