@@ -85,19 +85,14 @@ long_two : (r : Order) (n : ℕ) → length (short_octets r n) ≡ 2
 long_two Big n = refl
 long_two Little n = refl
 
+long_after : (g : ℕ) (o x : List ℕ) → length ((o ++ replicate g 0) ++ x) ≡ length o + g + length x
+long_after g o x = omega (arith, length-append (o ++ replicate g 0) x, length-append o (replicate g 0), length-replicate {A = ℕ} g 0)
+
 gap_below : (n : ℕ) → gap n 4 ≤ 3
 gap_below n = omega arith
 
 most_long : (r : Order) (n : ℕ) (o : List ℕ) → length (then_long r n o) ≤ length o + 7
-most_long r n o =
-    omega (
-      arith,
-      length-append (o ++ replicate (gap (length o) 4) 0) (long_octets r n),
-      length-append o (replicate (gap (length o) 4) 0),
-      length-replicate {A = ℕ} (gap (length o) 4) 0,
-      gap_below (length o),
-      long_four r n,
-    )
+most_long r n o = omega (arith, long_after (gap (length o) 4) o (long_octets r n), gap_below (length o), long_four r n)
 
 most_sequence : (r : Order) (s o : List ℕ) → length (then_sequence r s o) ≤ length o + length s + 7
 most_sequence r s o = omega (arith, length-append (then_long r (length s) o) s, most_long r (length s) o)
@@ -112,14 +107,7 @@ most_string r s o =
     )
 
 most_short : (r : Order) (n : ℕ) (o : List ℕ) → length (then_short r n o) ≤ length o + 3
-most_short r n o =
-    omega (
-      arith,
-      length-append (o ++ replicate (gap (length o) 2) 0) (short_octets r n),
-      length-append o (replicate (gap (length o) 2) 0),
-      length-replicate {A = ℕ} (gap (length o) 2) 0,
-      long_two r n,
-    )
+most_short r n o = omega (arith, long_after (gap (length o) 2) o (short_octets r n), long_two r n)
 
 -- ---- what differs between versions
 
