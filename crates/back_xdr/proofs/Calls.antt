@@ -8,13 +8,10 @@ use Rattle.wire_def.proofs.Grammars.{mapped, both_are}
 use Rattle.head_kit.specs.Words as kit
 use Rattle.head_kit.specs.Words.{only}
 use Rattle.back_xdr.specs.Words.{WordSpells, PassSpells}
-use Rattle.back_xdr.specs.Auth.{Auth, AuthSpells}
-use Rattle.back_xdr.specs.Call.{Call, CallSpells, CallStops, read_head_of_call}
+use Rattle.back_xdr.specs.Auth.{AuthSpells}
+use Rattle.back_xdr.specs.Call.{Call, Values, call_in, CallSpells, CallStops, read_head_of_call}
 use Rattle.head_kit.proofs.Words.{word_is, pass_is}
 use Rattle.back_xdr.proofs.Auths.{auth_is}
-
-abbrev Values : Type 0
-Values = ℕ × (ℕ × (ℕ × (ℕ × (ℕ × (ℕ × (Auth × Auth))))))
 
 -- the items of one, in their order
 abbrev Items : Spelling Values
@@ -27,17 +24,7 @@ Items p o x =
     Parts p5 o5 (λ a. WordSpells p5 a x.1.1.1.1.1.0) (λ p6 o6.
     Parts p6 o6 (λ a. AuthSpells p6 a x.1.1.1.1.1.1.0) (λ p7 o7. AuthSpells p7 o7 x.1.1.1.1.1.1.1)))))))
 
-abbrev call_of : Values → Call
-call_of x = record {
-  xid = x.0;
-  program = x.1.1.1.0;
-  version = x.1.1.1.1.0;
-  procedure = x.1.1.1.1.1.0;
-  cred = x.1.1.1.1.1.1.0;
-  verf = x.1.1.1.1.1.1.1;
-}
-
-forth : (p : ℕ) (o : List ℕ) (x : Values) → Items p o x → CallSpells p o (call_of x)
+forth : (p : ℕ) (o : List ℕ) (x : Values) → Items p o x → CallSpells p o (call_in x)
 unfolding AuthSpells kit.WordSpells
 forth p o x (
   a,
@@ -70,7 +57,7 @@ forth p o x (
       record { xid = fits; program = fits3; version = fits4; procedure = fits5; cred = fits6; verf = fits7 },
     )
 
-back : (p : ℕ) (o : List ℕ) (y : Call) → CallSpells p o y → (x : Values) × (call_of x ≡ y) × Items p o x
+back : (p : ℕ) (o : List ℕ) (y : Call) → CallSpells p o y → (x : Values) × (call_in x ≡ y) × Items p o x
 unfolding AuthSpells kit.WordSpells
 back p o y (is, fits) = (
   (y.xid, (0, (2, (y.program, (y.version, (y.procedure, (y.cred, y.verf))))))),
@@ -115,7 +102,7 @@ back p o y (is, fits) = (
 )
 
 pub call_is : IsGrammar read_head_of_call CallSpells CallStops
-call_is = mapped call_of CallSpells
+call_is = mapped call_in CallSpells
     (both_are (word_is Big) (λ xid. both_are (pass_is Big (only 0) Type_) (λ type. both_are (pass_is Big (only 2) Version) (λ protocol.
     both_are (word_is Big) (λ program. both_are (word_is Big) (λ version. both_are (word_is Big) (λ procedure.
     both_are auth_is (λ cred. auth_is))))))))

@@ -46,17 +46,24 @@ CallStops =
     StopsInOrder AuthSpells AuthStops (λ cred.
     AuthStops)))))))
 
+-- the items of a call's head, in their order
+abbrev pub Values : Type 0
+Values = ℕ × (ℕ × (ℕ × (ℕ × (ℕ × (ℕ × (Auth × Auth))))))
+
+-- the call that has these items
+abbrev pub call_in : Values → Call
+call_in x = record {
+  xid = x.0;
+  program = x.1.1.1.0;
+  version = x.1.1.1.1.0;
+  procedure = x.1.1.1.1.1.0;
+  cred = x.1.1.1.1.1.1.0;
+  verf = x.1.1.1.1.1.1.1;
+}
+
 -- a call's head, item by item
 abbrev pub read_head_of_call : Reader HeadErr Call
-read_head_of_call p o = map_got
-    (λ x. record {
-      xid = x.0;
-      program = x.1.1.1.0;
-      version = x.1.1.1.1.0;
-      procedure = x.1.1.1.1.1.0;
-      cred = x.1.1.1.1.1.1.0;
-      verf = x.1.1.1.1.1.1.1;
-    })
+read_head_of_call p o = map_got call_in
     (both read_word (λ xid. both (read_pass (only 0) Type_) (λ type. both (read_pass (only 2) Version) (λ protocol.
     both read_word (λ program. both read_word (λ version. both read_word (λ procedure.
     both read_auth (λ cred. read_auth))))))) p o)
