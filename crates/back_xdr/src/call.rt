@@ -44,10 +44,7 @@ pub fn read_call(message: &[u8]) -> Result<OncCall, HeadErr>
 {
     heads_are_read();
     are_octets(message);
-    call_at(Cursor {
-        place: 0,
-        rest: message,
-    })
+    call_at(Cursor::start(message))
 }
 
 /// The head of a call, item by item.

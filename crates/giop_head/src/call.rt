@@ -61,11 +61,7 @@ pub fn read_call(message: &[u8]) -> Result<GiopCall<'_>, HeadErr>
 {
     heads_are_read();
     are_octets(message);
-    let at = Cursor {
-        place: 0,
-        rest: message,
-    };
-    call_at(message.len(), at)
+    call_at(message.len(), Cursor::start(message))
 }
 
 /// The head of a request: the object's key, the name of the operation, and how many octets the head
@@ -94,11 +90,7 @@ pub fn read_request(message: &[u8]) -> Result<GiopRequest<'_>, HeadErr>
 {
     heads_are_read();
     are_octets(message);
-    let at = Cursor {
-        place: 0,
-        rest: message,
-    };
-    request_at(message.len(), at)
+    request_at(message.len(), Cursor::start(message))
 }
 
 /// The head of a request, in a message of so many octets.

@@ -24,11 +24,7 @@ pub fn read_reply(message: &[u8]) -> Result<ReplyHead<'_>, HeadErr>
 {
     heads_are_read();
     are_octets(message);
-    let at = Cursor {
-        place: 0,
-        rest: message,
-    };
-    reply_at(message.len(), at)
+    reply_at(message.len(), Cursor::start(message))
 }
 
 /// The head of a reply, in a message of so many octets.

@@ -6,8 +6,10 @@ use Rattle.back_xdr.proofs.call.read_call.Goals as goal
 
 pub returns-clause-spells : goal.returns-clause-spells
 returns-clause-spells c =
-    rw c.call_at.ensures (reported_head (format call) (heads_are_read call) call_reported c.args.message.now c.are_octets.ensures)
+    rw (c.call_at.ensures, c.start.ensures.place, c.start.ensures.rest)
+    (reported_head (format call) (heads_are_read call) call_reported c.args.message.now c.are_octets.ensures)
 
 pub returns-clause-stops : goal.returns-clause-stops
 returns-clause-stops c =
-    rw c.call_at.ensures (reported_fault (format call) (heads_are_read call) call_reported c.args.message.now c.are_octets.ensures)
+    rw (c.call_at.ensures, c.start.ensures.place, c.start.ensures.rest)
+    (reported_fault (format call) (heads_are_read call) call_reported c.args.message.now c.are_octets.ensures)
