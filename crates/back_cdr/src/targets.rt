@@ -1,7 +1,9 @@
 //! The operations of interfaces, as requests name them.
 
-ghost use Rattle.std.specs.Prelude.{◌≡◌, ℕ, ◌<◌, ◌≤◌, ◌^◌, ◌-◌, [], length, map, slice_index_or};
+ghost use Rattle.std.specs.Prelude.{◌≡◌, ℕ, ◌<◌, ◌≤◌, ◌^◌, ◌-◌, [], length, map, slice_index_or, IfSome, true};
+ghost use Rattle.wire_def.specs.declared.head.Order.{Order};
 ghost use Rattle.aoi.specs.Plain.{PlainRaise, plain_interface, plain_operation, plain_raise};
+ghost use Rattle.back_cdr.specs.Leads.{reply_lead};
 ghost use Rattle.back_cdr.specs.Targets as defs;
 ghost use Rattle.back_cdr.specs.Targets.{HasShortNames, IsCdr, no_target, target_in, target_of, targets};
 
@@ -10,6 +12,9 @@ use kit_base::Name;
 use kit_shared::Shared;
 use pres::Bound;
 use wire_def::{Back, Order};
+
+/// The most octets of an id that is compared: so one comparison takes a bounded time.
+const MOST_COMPARED: usize = 16_384;
 
 /// The order of the messages that a back end sends.
 pub(crate) fn order_of(back: Back) -> Order
@@ -86,4 +91,54 @@ pub(crate) fn exception_of(bound: &Bound, op: u32, arm: u32) -> &Shared<Name>
 {
     let (_, called) = operation_of(bound, op);
     id_at(called.raises.as_slice(), arm)
+}
+
+/// The repository id of an operation's exception, by its place from 0, where there is one.
+fn raised_id(bound: &Bound, op: u32, place: usize) -> Option<&Shared<Name>>
+    requires cdr { IsCdr bound.now.back }
+    requires op { op < length bound.now.ops }
+    ensures { IfSome result (λ id. id.now ≡ slice_index_or (target_of bound.now op).ids place []) }
+{
+    let (_, called) = operation_of(bound, op);
+    match called.raises.as_slice().get(place) {
+        Some(raise) => Some(&raise.id),
+        None => None,
+    }
+}
+
+/// Whether two ids are known to be the same: one that is longer than those that are compared counts as another.
+fn are_one_id(id: &Shared<Name>, other: &Shared<Name>) -> bool
+    ensures { result ≡ true → id.now ≡ other.now }
+{
+    id.len() <= MOST_COMPARED && id.as_slice() == other.as_slice()
+}
+
+/// Whether the exceptions of two operations with a place from 0 are known to have one id.
+fn raise_one_id(bound: &Bound, op: u32, p: u32, place: usize) -> bool
+    requires cdr { IsCdr bound.now.back }
+    requires op { op < length bound.now.ops }
+    requires p { p < length bound.now.ops }
+    ensures { result ≡ true → slice_index_or (target_of bound.now op).ids place []
+        ≡ slice_index_or (target_of bound.now p).ids place [] }
+{
+    match (raised_id(bound, op, place), raised_id(bound, p, place)) {
+        (Some(id), Some(other)) => are_one_id(id, other),
+        _ => false,
+    }
+}
+
+/// Whether the replies to two operations with an arm are known to have one head, in each version: those of answers do,
+/// and those of exceptions of one id.
+pub fn have_one_lead(bound: &Bound, op: u32, p: u32, arm: u32) -> bool
+    requires cdr { IsCdr bound.now.back }
+    requires op { op < length bound.now.ops }
+    requires p { p < length bound.now.ops }
+    ensures { result ≡ true → (m : ℕ) (r : Order) (id : ℕ)
+        → reply_lead m r (target_of bound.now op) arm id ≡ reply_lead m r (target_of bound.now p) arm id }
+{
+    if arm == 0 {
+        true
+    } else {
+        raise_one_id(bound, op, p, arm as usize - 1)
+    }
 }

@@ -1,15 +1,19 @@
 -- Codes of an earlier operation, for another of which the same is promised.
 use Rattle.std.proofs.Common.{◌≡◌, ◌<◌, ℕ, zero, suc, List, [], ◌∷◌, length, Some, slice_get, refl, sym, ap, subst, arith}
+use Rattle.std.proofs.Math.Path.{fun_ext}
 use Rattle.mint.specs.Types.{Ty}
 use Rattle.wire_def.specs.declared.encoding.Back.{Back}
 use Rattle.wire_def.specs.declared.encoding.Back.TheVariants as back
 use Rattle.wire_def.specs.declared.head.Head.{Head}
+use Rattle.wire_def.specs.declared.head.Order.{Order}
+use Rattle.wire_def.specs.declared.head.Order.TheVariants.{Big, Little}
 use Rattle.cast_stub.specs.declared.send.SendCode.{SendCode}
 use Rattle.raw_buf.specs.Words.{words}
 use Rattle.pres.specs.Bindings.{Binding}
 use Rattle.head_arms.specs.Raised.{exceptions}
 use Rattle.back_xdr.specs.Leads.{reply_numbers}
-use Rattle.back_cdr.specs.Targets.{IsCdr}
+use Rattle.back_cdr.specs.Leads as cdr_leads
+use Rattle.back_cdr.specs.Targets.{IsCdr, target_of}
 use Rattle.stub_codes.specs.declared.stub.Stub.{Stub}
 use Rattle.stub_codes.specs.Backs.{encoding, other_encoding, IsMinorOver, reply_lead, reply_lead_over}
 use Rattle.stub_codes.specs.Messages.{request_type}
@@ -38,16 +42,20 @@ pub xdr_one_lead : (b : Binding) (m op p k : ℕ) → b.back ≡ back.Xdr → (e
 xdr_one_lead b m op p k is there here =
     subst (λ (x : Back). reply_lead_over x b m op k ≡ reply_lead_over x b m p k) (sym is) (xdr_over b m op p k there here)
 
--- over CDR the head of an answer says nothing of the operation
-cdr_over : (x : Back) (b : Binding) (m op p : ℕ) → IsCdr x → reply_lead_over x b m op 0 ≡ reply_lead_over x b m p 0
-cdr_over back.CdrBig b m op p cdr = refl
-cdr_over back.CdrLittle b m op p cdr = refl
-cdr_over back.Xdr b m op p cdr = absurd cc
-cdr_over back.Mach b m op p cdr = absurd cc
+-- over CDR the head says the id of an exception, and of an answer nothing
+abbrev pub HaveOneTarget : Binding → ℕ → ℕ → ℕ → Type 0
+HaveOneTarget b op p k = (m : ℕ) (r : Order) (id : ℕ)
+    → cdr_leads.reply_lead m r (target_of b op) k id ≡ cdr_leads.reply_lead m r (target_of b p) k id
 
-pub cdr_one_lead : (b : Binding) (m op p k : ℕ) → IsCdr b.back → k ≡ 0 → reply_lead b m op k ≡ reply_lead b m p k
-cdr_one_lead b m op p k cdr is =
-    subst (λ (j : ℕ). reply_lead b m op j ≡ reply_lead b m p j) (sym is) (cdr_over b.back b m op p cdr)
+cdr_over : (x : Back) (b : Binding) (m op p k : ℕ) → IsCdr x → HaveOneTarget b op p k → (h : Head)
+    → reply_lead_over x b m op k h ≡ reply_lead_over x b m p k h
+cdr_over back.CdrBig b m op p k cdr one h = one m Big h.id
+cdr_over back.CdrLittle b m op p k cdr one h = one m Little h.id
+cdr_over back.Xdr b m op p k cdr one h = absurd cc
+cdr_over back.Mach b m op p k cdr one h = absurd cc
+
+pub cdr_one_lead : (b : Binding) (m op p k : ℕ) → IsCdr b.back → HaveOneTarget b op p k → reply_lead b m op k ≡ reply_lead b m p k
+cdr_one_lead b m op p k cdr one = fun_ext (cdr_over b.back b m op p k cdr one)
 
 -- ---- codes
 

@@ -156,7 +156,7 @@ fn raise_alike(bound: &Bound, op: u32, p: u32) -> bool
 }
 
 /// Whether the heads of replies to two operations with an arm are known to be the same: over ONC they say the arm where
-/// exceptions are raised, and over CDR that of an answer says nothing of the operation.
+/// exceptions are raised, and over CDR the exception's id.
 fn have_one_lead(bound: &Bound, op: u32, p: u32, arm: u32) -> bool
     requires op { op < length bound.now.ops }
     requires p { p < length bound.now.ops }
@@ -164,7 +164,7 @@ fn have_one_lead(bound: &Bound, op: u32, p: u32, arm: u32) -> bool
 {
     match bound.back() {
         Back::Xdr => raise_alike(bound, op, p),
-        Back::CdrBig | Back::CdrLittle => arm == 0,
+        Back::CdrBig | Back::CdrLittle => back_cdr::have_one_lead(bound, op, p, arm),
         Back::Mach => false,
     }
 }

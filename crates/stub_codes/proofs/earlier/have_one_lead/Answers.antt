@@ -1,5 +1,4 @@
 use Rattle.std.proofs.Common.{sym, subst, ◌∙◌}
-use Rattle.std.proofs.lemmas.Bool.{eqb-true}
 use Rattle.back_cdr.specs.Targets.{IsCdr}
 use Rattle.stub_codes.proofs.Again.{xdr_one_lead, cdr_one_lead}
 use Rattle.stub_codes.proofs.Leading.{either_cdr}
@@ -13,4 +12,4 @@ returns-in-Xdr c = λ e m.
 pub returns-in-CdrBig : goal.returns-in-CdrBig
 returns-in-CdrBig c = λ e m.
     cdr_one_lead c.args.bound.now m c.args.op c.args.p c.args.arm
-    (subst IsCdr c.back.ensures (either_cdr c.back.result c.in-CdrBig.is)) (eqb-true c.args.arm 0 e)
+    (subst IsCdr c.back.ensures (either_cdr c.back.result c.in-CdrBig.is)) (c.have_one_lead.ensures e)
