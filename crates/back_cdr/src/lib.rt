@@ -20,4 +20,4 @@ pub use lowering::lower_send;
 pub use names::Names;
 pub use recv_lowering::lower_recv;
 pub use seek::read_called;
-pub use targets::have_one_lead;
+pub use targets::{have_one_lead, lead_mark};

@@ -16,6 +16,9 @@ use wire_def::{Back, Order};
 /// The most octets of an id that is compared: so one comparison takes a bounded time.
 const MOST_COMPARED: usize = 16_384;
 
+/// The most octets of an id that are marked: its last ones, since ids of one module begin alike.
+const MOST_MARKED: usize = 32;
+
 /// The order of the messages that a back end sends.
 pub(crate) fn order_of(back: Back) -> Order
     ensures { result ≡ defs.order_of back }
@@ -140,5 +143,28 @@ pub fn have_one_lead(bound: &Bound, op: u32, p: u32, arm: u32) -> bool
         true
     } else {
         raise_one_id(bound, op, p, arm as usize - 1)
+    }
+}
+
+/// A number of some octets that others seldom have. It proves nothing.
+fn mark_of(octets: &[u8]) -> u32 {
+    let mut mark = 0u32;
+    for at in octets.len().saturating_sub(MOST_MARKED)..octets.len() {
+        mark = mark.wrapping_mul(31).wrapping_add(octets[at] as u32);
+    }
+    mark
+}
+
+/// A number of the head of an operation's replies with an arm, which heads that differ seldom have. It proves nothing.
+pub fn lead_mark(bound: &Bound, op: u32, arm: u32) -> u32
+    requires cdr { IsCdr bound.now.back }
+    requires op { op < length bound.now.ops }
+{
+    if arm == 0 {
+        return 0;
+    }
+    match raised_id(bound, op, arm as usize - 1) {
+        Some(id) => mark_of(id.as_slice()),
+        None => 0,
     }
 }

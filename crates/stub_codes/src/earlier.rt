@@ -58,9 +58,9 @@ impl Earlier {
         }
     }
 
-    /// An operation that perhaps has a reply with an arm and a type.
-    pub(crate) fn reply(&self, id: NodeId, arm: u32, raises: bool) -> u32 {
-        let at = slot_of(self.replies.len(), id, arm, raises);
+    /// An operation that perhaps has a reply with an arm, a type and a head of this mark.
+    pub(crate) fn reply(&self, id: NodeId, arm: u32, lead: u32) -> u32 {
+        let at = slot_of(self.replies.len(), id, arm, lead);
         match self.replies.get(at) {
             Some(op) => *op,
             None => NONE,
@@ -68,22 +68,34 @@ impl Earlier {
     }
 
     /// Keeps an operation that has such a reply.
-    pub(crate) fn keep_reply(&mut self, id: NodeId, arm: u32, raises: bool, op: u32) {
-        let at = slot_of(self.replies.len(), id, arm, raises);
+    pub(crate) fn keep_reply(&mut self, id: NodeId, arm: u32, lead: u32, op: u32) {
+        let at = slot_of(self.replies.len(), id, arm, lead);
         if at < self.replies.len() {
             self.replies[at] = op;
         }
     }
 }
 
-/// The slot of an arm with a type, of operations that raise exceptions or of those that raise none, among so many.
-fn slot_of(slots: usize, id: NodeId, arm: u32, raises: bool) -> usize {
-    let mark = arm.wrapping_mul(2654435761).wrapping_add(id);
-    let marked = if raises { mark.wrapping_add(1) } else { mark };
+/// The slot of an arm with a type and a head's mark, among so many.
+fn slot_of(slots: usize, id: NodeId, arm: u32, lead: u32) -> usize {
+    let mark = arm
+        .wrapping_mul(2654435761)
+        .wrapping_add(lead.wrapping_mul(40503));
     if slots == 0 {
         0
     } else {
-        marked as usize % slots
+        mark.wrapping_add(id) as usize % slots
+    }
+}
+
+/// A number of the head of an operation's replies with an arm, which heads that differ seldom have.
+pub(crate) fn lead_mark(bound: &Bound, op: u32, arm: u32) -> u32
+    requires { op < length bound.now.ops }
+{
+    match bound.back() {
+        Back::Xdr => u32::from(exceptions_of(bound, op) > 0),
+        Back::CdrBig | Back::CdrLittle => back_cdr::lead_mark(bound, op, arm),
+        Back::Mach => op,
     }
 }
 

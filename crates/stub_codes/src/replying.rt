@@ -12,12 +12,11 @@ ghost use Rattle.stub_codes.specs.Stubs.{AreStubs, HasReplies};
 use crate::arms::arms_of;
 use crate::backs::reply_lead_of;
 use crate::distinct::Distinct;
-use crate::earlier::{Earlier, arm_type_of, with_reply};
+use crate::earlier::{Earlier, arm_type_of, lead_mark, with_reply};
 use crate::lowered::Lowered;
 use crate::sending::sending;
 use crate::stub::Stubs;
 use cast_stub::SendCode;
-use head_arms::exceptions_of;
 use kit_base::{Listed, NoMemory};
 use kit_shared::Shared;
 use pres::Bound;
@@ -74,12 +73,12 @@ fn arm_code(
         Sends bound.now.back (reply_lead bound.now minor op arm) (arm_type bound.now op arm) code) }
 {
     let id = arm_type_of(bound, types, op, arm);
-    let raises = exceptions_of(bound, op) > 0;
-    let p = earlier.reply(id, arm, raises);
+    let mark = lead_mark(bound, op, arm);
+    let p = earlier.reply(id, arm, mark);
     match with_reply(bound, types, stubs, lead, p, op, arm, minor) {
         Some(code) => code.share(),
         None => {
-            earlier.keep_reply(id, arm, raises, op);
+            earlier.keep_reply(id, arm, mark, op);
             let code = made(alloc, bound, types, low, op, arm, minor)?;
             Shared::new(alloc, code)
         }
