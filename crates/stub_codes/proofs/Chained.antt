@@ -66,7 +66,7 @@ last_or_in (z ∷ xs) x y (suc i) e = later (last_or_in xs x y i e) where
   later (inr h) = inr (ap suc h.0, h.1)
 
 -- one item more, each of which is what its place asks for
-grown : {A : Type 0} (P : ℕ → A → Type 0) (xs : List A) (x : A) (n : ℕ) → length xs ≡ n
+pub grown : {A : Type 0} (P : ℕ → A → Type 0) (xs : List A) (x : A) (n : ℕ) → length xs ≡ n
     → ((i : ℕ) (y : A) → slice_get xs i ≡ Some y → P i y) → P n x → (i : ℕ) (y : A) → slice_get (xs ++ x ∷ []) i ≡ Some y → P i y
 grown {A = A} P xs x n many each is i y e = placed (last_or_in xs x y i e) where
   placed : (slice_get xs i ≡ Some y) ⊎ ((i ≡ length xs) × (x ≡ y)) → P i y

@@ -18,6 +18,8 @@ mod Alike
 mod Chained
 -- * What a run of an operation's code has done, as it is promised of the operation
 mod Done
+-- * Code without calls of some types, each at the place of its number
+mod Uncalled
 -- * Codes of an earlier operation, for another of which the same is promised
 mod Again
 -- * What requests and replies cost by the codes that are kept

@@ -2,14 +2,17 @@
 
 ghost use Rattle.std.specs.Prelude.{◌≡◌, ◌<◌, ◌≤◌, length, IfOk};
 ghost use Rattle.mint.specs.Types.{type_at};
+ghost use Rattle.stub_lower.specs.Leads.{AreChunks};
 ghost use Rattle.stub_codes.specs.Backs.{encoding, other_encoding, IsMinorOver};
 ghost use Rattle.stub_codes.specs.Distinct.{AreSame};
-ghost use Rattle.stub_codes.specs.Lowered.{AreLowered};
+ghost use Rattle.stub_codes.specs.Lowered.{AreBodies, AreLowered};
 ghost use Rattle.stub_codes.specs.Messages.{request_type};
 ghost use Rattle.stub_codes.specs.Receiving.{Receives, ReceivesOther};
+ghost use Rattle.stub_codes.specs.Sending.{SendsAfter};
 ghost use Rattle.stub_codes.specs.Stubs.{AreStubs, IsStub};
 
 use crate::backs::{encoding_of, lead_of, other_of};
+use crate::bodies::{Bodies, bodies_of, body_of};
 use crate::distinct::{Distinct, distinct_of};
 use crate::earlier::{Earlier, request_type_of, with_request};
 use crate::lowered::{Lowered, lower_all};
@@ -17,12 +20,13 @@ use crate::receiving::{receiving, receiving_other, shared_other};
 use crate::replying::{later_of, replies_of};
 use crate::sending::sending;
 use crate::stub::{Stub, Stubs};
-use cast_stub::RecvCode;
+use cast_stub::{RecvCode, SendCode};
 use kit_base::NoMemory;
 use kit_shared::Shared;
-use mint::table::NodeId;
+use mint::table::{Mint, NodeId};
 use pres::Bound;
 use std::alloc::Global;
+use wire_def::Back;
 
 /// The node of what goes into an operation.
 pub(crate) fn request_of(bound: &Bound, op: u32) -> NodeId
@@ -71,12 +75,39 @@ fn receivers_of(
     }
 }
 
+/// The code that sends the messages of a head and of the values of a type, from the code that is kept of the type where
+/// there is some.
+fn request_code(
+    alloc: Global,
+    back: Back,
+    lead: SendCode,
+    low: &Lowered,
+    bodies: &Bodies,
+    mint: &Mint,
+    id: NodeId,
+) -> Result<SendCode, NoMemory>
+    requires id { id < length mint.now }
+    requires lowered { AreLowered back mint.now low.now }
+    requires bodies { AreBodies low.now.sends bodies.now }
+    requires chunks { AreChunks lead }
+    ensures { IfOk result (λ code. SendsAfter back lead (type_at mint.now id) code) }
+{
+    match bodies.get(id as usize) {
+        Some(Some(body)) => sending(alloc, back, lead, body, low, mint, id),
+        _ => {
+            let body = body_of(alloc, &low.sends, mint, id)?;
+            sending(alloc, back, lead, &body, low, mint, id)
+        }
+    }
+}
+
 /// The code of an operation, whose requests are sent in a version.
 fn stub_of(
     alloc: Global,
     bound: &Bound,
     types: &Distinct,
     low: &Lowered,
+    bodies: &Bodies,
     stubs: &Stubs,
     earlier: &mut Earlier,
     op: u32,
@@ -89,12 +120,13 @@ fn stub_of(
     requires lowered { AreLowered bound.now.back types.now.mint low.now }
     requires few { length stubs.now ≤ length bound.now.ops }
     requires stubs { AreStubs bound.now minor stubs.now }
+    requires bodies { AreBodies low.now.sends bodies.now }
     ensures { IfOk result (λ stub. IsStub bound.now minor op stub) }
 {
     let back = bound.back();
     let id = request_type_of(bound, types, op);
     let lead = lead_of(alloc, bound, op, minor)?;
-    let send = sending(alloc, back, lead, low, &types.mint, id)?;
+    let send = request_code(alloc, back, lead, low, bodies, &types.mint, id)?;
     let p = earlier.request(id);
     let (recv, other) = receivers_of(alloc, bound, types, low, stubs, p, op, minor)?;
     let replies = replies_of(alloc, bound, types, low, stubs, earlier, minor, op, 0)?;
@@ -117,12 +149,23 @@ pub(crate) fn stubs_of(alloc: Global, bound: &Bound, minor: u8) -> Result<Stubs,
 {
     let types = distinct_of(alloc, bound.mint())?;
     let low = lower_all(alloc, bound.back(), &types.mint)?;
+    let bodies = bodies_of(alloc, bound, &types, &low.sends)?;
     let mut earlier = Earlier::new(alloc, types.mint.len(), bound.ops().len())?;
     let mut stubs = Stubs::with_room(alloc, bound.ops().len())?;
     for i in 0..bound.ops().len() {
         match u32::try_from(i) {
             Ok(op) => {
-                let stub = stub_of(alloc, bound, &types, &low, &stubs, &mut earlier, op, minor)?;
+                let stub = stub_of(
+                    alloc,
+                    bound,
+                    &types,
+                    &low,
+                    &bodies,
+                    &stubs,
+                    &mut earlier,
+                    op,
+                    minor,
+                )?;
                 stubs.push(stub)?;
             }
             Err(_) => return Err(NoMemory),

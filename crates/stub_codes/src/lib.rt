@@ -4,6 +4,7 @@
 
 mod arms;
 mod backs;
+mod bodies;
 mod codes;
 mod compile;
 mod distinct;

@@ -11,6 +11,7 @@ ghost use Rattle.stub_codes.specs.Stubs.{AreStubs, HasReplies};
 
 use crate::arms::arms_of;
 use crate::backs::reply_lead_of;
+use crate::bodies::body_of;
 use crate::distinct::Distinct;
 use crate::earlier::{Earlier, arm_type_of, lead_mark, with_reply};
 use crate::lowered::Lowered;
@@ -44,7 +45,8 @@ fn made(
 {
     let lead = reply_lead_of(alloc, bound, op, arm, minor)?;
     let id = arm_type_of(bound, types, op, arm);
-    sending(alloc, bound.back(), lead, low, &types.mint, id)
+    let body = body_of(alloc, &low.sends, &types.mint, id)?;
+    sending(alloc, bound.back(), lead, &body, low, &types.mint, id)
 }
 
 /// The code that sends the replies to an operation with an arm, in a version: that of an earlier operation where it is

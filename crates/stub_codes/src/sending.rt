@@ -3,7 +3,7 @@
 ghost use Rattle.std.specs.Prelude.{◌<◌, length, IfOk};
 ghost use Rattle.mint.specs.Types.{type_at};
 ghost use Rattle.stub_lower.specs.Leads.{AreChunks};
-ghost use Rattle.stub_codes.specs.Lowered.{AreLowered};
+ghost use Rattle.stub_codes.specs.Lowered.{AreLowered, IsBody};
 ghost use Rattle.stub_codes.specs.Sending.{IsWhole, SendsAfter};
 
 use crate::backs::{encoding_of, put_tail};
@@ -11,7 +11,7 @@ use crate::lowered::Lowered;
 use cast_stub::copies::put_copies;
 use cast_stub::{SendCode, SendSubs};
 use chunker::{Phase, chunk};
-use copy_inline::{inline, rows};
+use copy_inline::rows;
 use hoist::hoist;
 use kit_base::NoMemory;
 use mint::table::{Mint, NodeId};
@@ -32,12 +32,13 @@ fn whole(alloc: Global, back: Back, lead: SendCode, body: &SendCode) -> Result<S
     })
 }
 
-/// The code that sends the messages of a head and of the values of a node: inlined, its room ensured, its rows as
-/// blocks, neighbouring stores in one chunk.
+/// The code that sends the messages of a head and of the values of a node, from code without calls: its room ensured, its
+/// rows as blocks, neighbouring stores in one chunk.
 pub(crate) fn sending(
     alloc: Global,
     back: Back,
     lead: SendCode,
+    body: &SendCode,
     low: &Lowered,
     mint: &Mint,
     id: NodeId,
@@ -45,11 +46,11 @@ pub(crate) fn sending(
     requires id { id < length mint.now }
     requires lowered { AreLowered back mint.now low.now }
     requires chunks { AreChunks lead }
+    requires body { IsBody low.now.sends id body.now }
     ensures { IfOk result (λ code. SendsAfter back lead (type_at mint.now id) code) }
 {
     mint.types_are_sound();
-    let body = inline(alloc, &low.sends, id)?;
-    let given = whole(alloc, back, lead, &body)?;
+    let given = whole(alloc, back, lead, body)?;
     let code = hoist(alloc, &given, mint, id, &low.classes)?;
     let rowed = rows(alloc, encoding_of(back), &code, mint, id)?;
     chunk(alloc, &rowed, Phase { m: 8, r: 0 })

@@ -1,6 +1,8 @@
 use Rattle.std.proofs.Common.{ℕ, List, [], ◌∷◌, length, ap, sym, subst, arith, length-append}
 use Rattle.mint.specs.declared.node.Node.{Node}
+use Rattle.wire_def.specs.declared.encoding.Back.{Back}
 use Rattle.stub_codes.specs.Distinct.{AreSame}
+use Rattle.stub_codes.specs.Lowered.{AreLowered}
 use Rattle.stub_codes.specs.Stubs.{AreStubs, IsStub}
 use Rattle.stub_codes.proofs.Chained.{one_more}
 use Rattle.stub_codes.proofs.compile.stubs_of.Goals as goal
@@ -21,3 +23,11 @@ loop-i-preserved c =
 pub stub_of-requires-clause-same : goal.stub_of-requires-clause-same
 stub_of-requires-clause-same c =
     subst (λ (ns : List Node). AreSame c.in_ok-types.types.mint ns c.in_ok-types.types.ids) c.mint.ensures c.in_ok-types.ensures.same
+
+pub bodies_of-requires-clause-same : goal.bodies_of-requires-clause-same
+bodies_of-requires-clause-same c =
+    subst (λ (ns : List Node). AreSame c.in_ok-types.types.mint ns c.in_ok-types.types.ids) c.mint.ensures c.in_ok-types.ensures.same
+
+pub stub_of-requires-clause-lowered : goal.stub_of-requires-clause-lowered
+stub_of-requires-clause-lowered c =
+    subst (λ (k : Back). AreLowered k c.in_ok-types.types.mint c.in_ok-low.low) c.back.ensures c.in_ok-low.ensures

@@ -1,6 +1,10 @@
+use Rattle.std.proofs.Common.{arith}
 use Rattle.mint.specs.Types.{type_at}
 use Rattle.stub_codes.proofs.Chained.{reply_made}
 use Rattle.stub_codes.proofs.replying.made.Goals as goal
+
+pub body_of-requires-clause-id : goal.body_of-requires-clause-id
+body_of-requires-clause-id c = omega (arith, c.arm_type_of-id.ensures.id, c.requires.lowered.many)
 
 pub returns : goal.returns
 returns c =
