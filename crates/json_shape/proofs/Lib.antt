@@ -48,6 +48,8 @@ pub mod FieldPlaces
 pub mod RecordTokens
 -- * Operations by their names and numbers, interface by interface, by induction on the operations of one
 pub mod Seeking
+-- * Integers of at most 64 bits that are read of the texts of numbers, by induction on the digits
+pub mod UsualDigits
 -- * Numbers, items, texts and rows that are read of text in the usual form
 pub mod UsualTexts
 -- * What is read of text in the usual form, by induction on items and on members

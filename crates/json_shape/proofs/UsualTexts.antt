@@ -1,9 +1,7 @@
 -- Numbers, items, texts and rows that are read of text in the usual form.
-use Rattle.std.proofs.Common.{◌≡◌, ◌==◌, ℕ, ℤ, pos, negsuc, List, drop, map, Bool, true, false, Option, Some, None, Ok, option_map, refl, sym, ap, ◌∙◌, subst}
-use Rattle.std.specs.Prelude.{IfSome, slice_index}
+use Rattle.std.proofs.Common.{◌≡◌, ℕ, ℤ, pos, negsuc, List, map, Bool, true, Some, Ok, option_map, refl, sym, ap, ◌∙◌}
 use Rattle.std.specs.Result.{result_ok}
 use Rattle.std.proofs.lemmas.Int.{to_z-of_z}
-use Rattle.fast_float.specs.Text.{scan}
 use Rattle.hex.specs.Hex.{decode_of}
 use Rattle.json.specs.Json as text
 use Rattle.mint.specs.declared.kind.Kind.{Kind}
@@ -13,30 +11,12 @@ use Rattle.mint.specs.Row.{Numbers}
 use Rattle.pres.specs.Faces.{ItemList, item}
 use Rattle.serde_json.specs.Data.{number, string, boolean}
 use Rattle.serde_json.specs.Find.{as_integer, of_integer}
-use Rattle.serde_json.specs.Read.{number_from, number_of, of_json}
+use Rattle.serde_json.specs.Read.{number_of, of_json}
 use Rattle.json_shape.specs.Scalars.{flag, number_in, number_named, row_in, sign_in, whole_in}
 use Rattle.json_shape.specs.Texts.{octets_of}
 use Rattle.json_shape.specs.Usual.{IsRead}
 
 pub ruleset numbers = (to_z-of_z)
-
--- the number of a text that begins with a minus, and of one that does not
-pub negative_number : (s os rest : List ℕ) (o : Option ℤ) → os ≡ s → rest ≡ drop 1 os → true ≡ (slice_index os 0 == 45)
-    → IfSome o (λ n. number_from true (scan rest) ≡ Some (of_integer n)) → IfSome o (λ n. number_of s ≡ Some (of_integer n))
-unfolding number_of
-negative_number s os rest None same after is h = tt
-negative_number s os rest (Some n) same after is h =
-    let first : (slice_index s 0 == 45) ≡ true = sym (is ∙ ap (λ (x : List ℕ). slice_index x 0 == 45) same) in
-    let left : rest ≡ drop 1 s = after ∙ ap (drop 1) same in
-    rw first (subst (λ (x : List ℕ). number_from true (scan x) ≡ Some (of_integer n)) left h)
-
-pub positive_number : (s os : List ℕ) (o : Option ℤ) → os ≡ s → false ≡ (slice_index os 0 == 45)
-    → IfSome o (λ n. number_from false (scan os) ≡ Some (of_integer n)) → IfSome o (λ n. number_of s ≡ Some (of_integer n))
-unfolding number_of
-positive_number s os None same is h = tt
-positive_number s os (Some n) same is h =
-    let first : (slice_index s 0 == 45) ≡ false = sym (is ∙ ap (λ (x : List ℕ). slice_index x 0 == 45) same) in
-    rw first (subst (λ (x : List ℕ). number_from false (scan x) ≡ Some (of_integer n)) same h)
 
 integer_again : (n : ℤ) → as_integer (of_integer n) ≡ Some n
 integer_again (pos n) = refl

@@ -22,6 +22,7 @@ mod rows;
 mod scalars;
 mod texts;
 mod usual;
+mod usual_digits;
 mod usual_requests;
 mod usual_scalars;
 mod usual_tokens;

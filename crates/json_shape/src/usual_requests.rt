@@ -18,7 +18,7 @@ use crate::operations::{is_oneway, op_named};
 use crate::records::RequestRec;
 use crate::requests::{head_of, is_idle_port};
 use crate::usual::read_direct;
-use crate::usual_scalars::integer;
+use crate::usual_digits::integer;
 use crate::usual_tokens::{digits_in, items_in, leading, members_in, string_in};
 use json::{Reader, Scratch, Value as Tree};
 use kit_base::NoMemory;

@@ -1,13 +1,10 @@
 //! Numbers, items, texts and rows from text in the usual form.
 
-ghost use Rattle.std.specs.Prelude.{◌≡◌, ◌==◌, ◌<◌, [], ◌∷◌, ◌++◌, true, false, Some, IfOk, OnOk, IfSome, IsTrue, drop, length, slice_index};
-ghost use Rattle.fast_float.specs.Text.{scan};
+ghost use Rattle.std.specs.Prelude.{◌≡◌, [], ◌∷◌, ◌++◌, true, Some, IfOk, OnOk};
 ghost use Rattle.json.specs.Value.{value_view};
 ghost use Rattle.mint.specs.declared.kind.Kind.TheVariants as kind;
 ghost use Rattle.mint.specs.Kinds.{in_range};
 ghost use Rattle.pres.specs.Faces.{items_in, number, item};
-ghost use Rattle.serde_json.specs.Find.{of_integer};
-ghost use Rattle.serde_json.specs.Read.{number_from, number_of};
 ghost use Rattle.json_shape.specs.Scalars.{flag, number_in, row_in, sign_in, whole_in};
 ghost use Rattle.json_shape.specs.Usual.{listed_in, IsRead};
 
@@ -15,8 +12,8 @@ use crate::errors::{Halt, Unusual};
 use crate::rows::block;
 use crate::scalars::number_named;
 use crate::texts::octets_of;
+use crate::usual_digits::integer;
 use crate::usual_tokens::{boolean_in, digits_in, items_in, string_in};
-use fast_float::Numeral;
 use json::Value as Tree;
 use mint::kind::Kind;
 use mint::row::Row;
@@ -66,49 +63,6 @@ fn ranged(kind: Kind, n: i128) -> Result<i128, Unusual>
     ensures ranged { OnOk result (in_range kind n ≡ true) }
 {
     if kind.has(n) { Ok(n) } else { Err(Unusual) }
-}
-
-/// The integer of at most 64 bits that a number's text is.
-pub(crate) fn integer(digits: &str) -> Option<i128>
-    ensures { IfSome result (λ n. number_of digits.now ≡ Some (of_integer n)) }
-{
-    let octets = digits.as_bytes();
-    if has_minus(octets) {
-        negative(after_minus(octets))
-    } else {
-        positive(octets)
-    }
-}
-
-fn has_minus(octets: &[u8]) -> bool
-    ensures value { result ≡ (slice_index octets.now 0 == 45) }
-    ensures some { IsTrue result → 0 < length octets.now }
-{
-    !octets.is_empty() && octets[0] == b'-'
-}
-
-/// What follows the first octet.
-fn after_minus(octets: &[u8]) -> &[u8]
-    requires { 0 < length octets.now }
-    ensures { result.now ≡ drop 1 octets.now }
-{
-    &octets[1..]
-}
-
-fn positive(octets: &[u8]) -> Option<i128>
-    ensures { IfSome result (λ n. number_from false (scan octets.now) ≡ Some (of_integer n)) }
-{
-    let n = Numeral::scan(octets).to_u64()?;
-    Some(i128::from(n))
-}
-
-fn negative(octets: &[u8]) -> Option<i128>
-    ensures { IfSome result (λ n. number_from true (scan octets.now) ≡ Some (of_integer n)) }
-{
-    match Numeral::scan(octets).to_i64(true) {
-        Some(n) if n < 0 => Some(i128::from(n)),
-        _ => None,
-    }
 }
 
 /// The item that the text names.

@@ -1,5 +1,5 @@
-use Rattle.json_shape.proofs.UsualTexts.{negative_number, positive_number}
-use Rattle.json_shape.proofs.usual_scalars.integer.Goals as goal
+use Rattle.json_shape.proofs.UsualDigits.{negative_number, positive_number}
+use Rattle.json_shape.proofs.usual_digits.integer.Goals as goal
 
 pub returns-then-has_minus : goal.returns-then-has_minus
 returns-then-has_minus c =
