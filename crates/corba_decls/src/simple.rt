@@ -6,43 +6,26 @@ ghost use Rattle.corba_decls.specs.TypeReaders.{simple_in, is_simple, is_long_do
 
 use crate::type_tree::Simple;
 use idl_lex::Token;
-use idl_read::{Halt, Parsed, begins, is_mark, is_word};
+use idl_read::{Halt, Parsed, begins, begins_word_of, is_mark, is_word, word_of};
 
-/// The type of one word that a token is.
-fn simple_of(token: &Token) -> Option<Simple>
-    ensures { result ≡ simple_in token.now.kind }
-{
-    if is_word(token, b"char") {
-        Some(Simple::Char)
-    } else if is_word(token, b"boolean") {
-        Some(Simple::Boolean)
-    } else if is_word(token, b"octet") {
-        Some(Simple::Octet)
-    } else if is_word(token, b"float") {
-        Some(Simple::Float)
-    } else if is_word(token, b"double") {
-        Some(Simple::Double)
-    } else if is_word(token, b"wchar") {
-        Some(Simple::Wchar)
-    } else if is_word(token, b"wstring") {
-        Some(Simple::Wstring)
-    } else if is_word(token, b"any") {
-        Some(Simple::Any)
-    } else if is_word(token, b"Object") {
-        Some(Simple::Object)
-    } else {
-        None
-    }
-}
+/// The types of one word.
+const SIMPLE: [(&[u8], Simple); 9] = [
+    (b"char", Simple::Char),
+    (b"boolean", Simple::Boolean),
+    (b"octet", Simple::Octet),
+    (b"float", Simple::Float),
+    (b"double", Simple::Double),
+    (b"wchar", Simple::Wchar),
+    (b"wstring", Simple::Wstring),
+    (b"any", Simple::Any),
+    (b"Object", Simple::Object),
+];
 
 /// Whether a type of one word comes first.
 pub(crate) fn begins_simple(tokens: &[Token]) -> bool
     ensures { result ≡ begins_with is_simple tokens.now }
 {
-    match tokens {
-        [first, ..] => simple_of(first).is_some(),
-        [] => false,
-    }
+    begins_word_of(tokens, &SIMPLE)
 }
 
 /// A type of one word.
@@ -50,13 +33,7 @@ pub(crate) fn simple(tokens: &[Token]) -> Parsed<'_, Simple>
     ensures read { Gives (λ x. (x.0, x.1.now)) result (token_at simple_in tokens.now) }
     ensures fault { IfErr result (λ e. e ≡ Halt.Syntax) }
 {
-    match tokens {
-        [first, rest @ ..] => match simple_of(first) {
-            Some(simple) => Ok((simple, rest)),
-            None => Err(Halt::Syntax),
-        },
-        [] => Err(Halt::Syntax),
-    }
+    word_of(tokens, &SIMPLE)
 }
 
 /// Whether `long double` comes first.

@@ -1,8 +1,8 @@
 //! Operations.
 
-ghost use Rattle.std.specs.Prelude.{◌≡◌, ◌≤◌, ◌-◌, IfErr};
-ghost use Rattle.idl_read.specs.Reading.{Gives, token_at};
-ghost use Rattle.corba_syntax.specs.OperationReaders.{direction_in, parameters_at, result_at, raises_at, operation_at};
+ghost use Rattle.std.specs.Prelude.{◌≡◌, ◌≤◌, ◌-◌};
+ghost use Rattle.idl_read.specs.Reading.{Gives};
+ghost use Rattle.corba_syntax.specs.OperationReaders.{parameters_at, result_at, raises_at, operation_at};
 
 use crate::operation_tree::{Direction, Operation, Parameter, Reference};
 use crate::optional::word_flag;
@@ -10,40 +10,18 @@ use corba_decls::{TypeName, type_name};
 use idl_exprs::Identifier;
 use idl_lex::Token;
 use idl_read::{
-    Halt, Nested, Parsed, Production, begins, begins_mark, is_word, joined_nested, mark,
-    stands_before, word,
+    Nested, Parsed, Production, begins, begins_mark, joined_nested, mark, stands_before, word,
+    word_of,
 };
 use kit_base::Listed;
 use std::alloc::Global;
 
-/// The direction that a token is.
-fn direction_of(token: &Token) -> Option<Direction>
-    ensures { result ≡ direction_in token.now.kind }
-{
-    if is_word(token, b"in") {
-        Some(Direction::In)
-    } else if is_word(token, b"out") {
-        Some(Direction::Out)
-    } else if is_word(token, b"inout") {
-        Some(Direction::InOut)
-    } else {
-        None
-    }
-}
-
-/// A direction.
-fn direction(tokens: &[Token]) -> Parsed<'_, Direction>
-    ensures read { Gives (λ x. (x.0, x.1.now)) result (token_at direction_in tokens.now) }
-    ensures fault { IfErr result (λ e. e ≡ Halt.Syntax) }
-{
-    match tokens {
-        [first, rest @ ..] => match direction_of(first) {
-            Some(direction) => Ok((direction, rest)),
-            None => Err(Halt::Syntax),
-        },
-        [] => Err(Halt::Syntax),
-    }
-}
+/// The words of the directions.
+const DIRECTIONS: [(&[u8], Direction); 3] = [
+    (b"in", Direction::In),
+    (b"out", Direction::Out),
+    (b"inout", Direction::InOut),
+];
 
 impl Nested for Parameter {
     ghost use Rattle.corba_syntax.specs.OperationReaders.{is_further, parameter_at};
@@ -58,7 +36,7 @@ impl Nested for Parameter {
 
     #[tactic(auto, unfolding(crate::specs::OperationReaders::parameter_at))]
     fn read(alloc: Global, levels: u32, tokens: &[Token]) -> Parsed<'_, Self> {
-        let (direction, rest) = direction(tokens)?;
+        let (direction, rest) = word_of(tokens, &DIRECTIONS)?;
         let (of, rest) = type_name(alloc, levels, rest)?;
         let (name, rest) = Identifier::read(alloc, rest)?;
         Ok((

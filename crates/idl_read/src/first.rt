@@ -1,7 +1,7 @@
 //! The first token of some tokens.
 
 ghost use Rattle.std.specs.Prelude.{◌≡◌, map, Some, IfErr};
-ghost use Rattle.idl_read.specs.Reading.{Gives, begins_with, begins_other, word_is, mark_is, word_at, mark_at, number_at, is_in, id_at, is_id, flag_at};
+ghost use Rattle.idl_read.specs.Reading.{Gives, begins_with, begins_other, word_is, mark_is, word_at, mark_at, number_at, is_in, id_at, is_id, flag_at, word_in, has_word, token_at};
 
 use crate::{Halt, Parsed};
 use idl_lex::{Token, TokenKind};
@@ -145,5 +145,42 @@ pub fn begins_id(tokens: &[Token], words: &[&[u8]]) -> bool
             _ => false,
         },
         [] => false,
+    }
+}
+
+/// What the token stands for in a table of words.
+fn meaning<T: Copy>(token: &Token, table: &[(&[u8], T)]) -> Option<T>
+    ensures { result ≡ word_in (map (λ e. (e.0.now, e.1)) table.now) token.now.kind }
+{
+    for (word, meaning) in table {
+        if is_word(token, word) {
+            return Some(*meaning);
+        }
+    }
+    None
+}
+
+/// Whether a word of the table comes first.
+pub fn begins_word_of<T: Copy>(tokens: &[Token], table: &[(&[u8], T)]) -> bool
+    ensures { result ≡ begins_with (has_word (map (λ e. (e.0.now, e.1)) table.now)) tokens.now }
+{
+    match tokens {
+        [first, ..] => meaning(first, table).is_some(),
+        [] => false,
+    }
+}
+
+/// What a word of the table stands for, and what follows it.
+pub fn word_of<'a, T: Copy>(tokens: &'a [Token], table: &[(&[u8], T)]) -> Parsed<'a, T>
+    ensures read { Gives (λ x. (x.0, x.1.now)) result
+        (token_at (word_in (map (λ e. (e.0.now, e.1)) table.now)) tokens.now) }
+    ensures fault { IfErr result (λ e. e ≡ Halt.Syntax) }
+{
+    match tokens {
+        [first, rest @ ..] => match meaning(first, table) {
+            Some(meaning) => Ok((meaning, rest)),
+            None => Err(Halt::Syntax),
+        },
+        [] => Err(Halt::Syntax),
     }
 }

@@ -9,7 +9,8 @@ mod nested;
 
 pub use errors::SyntaxErr;
 pub use first::{
-    begins, begins_id, begins_mark, flag, id, is_mark, is_word, mark, number, stands_before, word,
+    begins, begins_id, begins_mark, begins_word_of, flag, id, is_mark, is_word, mark, number,
+    stands_before, word, word_of,
 };
 pub use halt::{Halt, Parsed};
 pub use items::{Production, after_mark, joined, some_until, some_while, until, while_word};

@@ -3,7 +3,7 @@
 ghost use Rattle.std.specs.Prelude.{◌≡◌, map, IfErr};
 ghost use Rattle.std.specs.Str.{str_eq_ignore_ascii_case, str_to_ascii_lowercase};
 ghost use Rattle.idl_read.specs.Reading.{Gives, begins_with, token_at};
-ghost use Rattle.mig_syntax.specs.Words.{is_one_of, like_is, like_at, named_in, identifier_at};
+ghost use Rattle.mig_syntax.specs.Words.{is_one_of, like_is, like_at, like_in, has_like, named_in, identifier_at};
 
 use idl_lex::{Token, TokenKind};
 use idl_read::{Halt, Parsed};
@@ -66,6 +66,43 @@ pub(crate) fn like<'a>(tokens: &'a [Token], word: &[u8]) -> Result<&'a [Token], 
     match tokens {
         [first, rest @ ..] if is_like(first, word) => Ok(rest),
         _ => Err(Halt::Syntax),
+    }
+}
+
+/// What the token stands for in a table of words.
+fn meaning<T: Copy>(token: &Token, table: &[(&[u8], T)]) -> Option<T>
+    ensures { result ≡ like_in (map (λ e. (e.0.now, e.1)) table.now) token.now.kind }
+{
+    for (word, meaning) in table {
+        if is_like(token, word) {
+            return Some(*meaning);
+        }
+    }
+    None
+}
+
+/// Whether a word of the table comes first.
+pub(crate) fn begins_like_of<T: Copy>(tokens: &[Token], table: &[(&[u8], T)]) -> bool
+    ensures { result ≡ begins_with (has_like (map (λ e. (e.0.now, e.1)) table.now)) tokens.now }
+{
+    match tokens {
+        [first, ..] => meaning(first, table).is_some(),
+        [] => false,
+    }
+}
+
+/// What a word of the table stands for, and what follows it.
+pub(crate) fn like_of<'a, T: Copy>(tokens: &'a [Token], table: &[(&[u8], T)]) -> Parsed<'a, T>
+    ensures read { Gives (λ x. (x.0, x.1.now)) result
+        (token_at (like_in (map (λ e. (e.0.now, e.1)) table.now)) tokens.now) }
+    ensures fault { IfErr result (λ e. e ≡ Halt.Syntax) }
+{
+    match tokens {
+        [first, rest @ ..] => match meaning(first, table) {
+            Some(meaning) => Ok((meaning, rest)),
+            None => Err(Halt::Syntax),
+        },
+        [] => Err(Halt::Syntax),
     }
 }
 
