@@ -4,7 +4,7 @@ ghost use Rattle.std.specs.Prelude.{◌≡◌, ◌++◌, OnOk, IfOk};
 
 use crate::copying::puts_after;
 use crate::put::{Path, Puts};
-use crate::send::{SendCases, SendOp, SendOps};
+use crate::send::{SendCases, SendLast, SendOp, SendOps};
 use kit_base::NoMemory;
 use std::alloc::Global;
 
@@ -67,7 +67,7 @@ fn copy_op(alloc: Global, op: &SendOp) -> Result<SendOp, NoMemory>
                 Some(body) => Some(copy_ops(alloc, body)?),
                 None => None,
             };
-            Ok(SendOp::Switch(copy_path(alloc, path)?, bodies, last))
+            SendOp::switch(alloc, copy_path(alloc, path)?, bodies, last)
         }
         SendOp::Call(k, path) => Ok(SendOp::Call(*k, copy_path(alloc, path)?)),
         SendOp::Patch(at, sub, order) => Ok(SendOp::Patch(*at, *sub, *order)),
@@ -86,7 +86,7 @@ pub fn copy_cases(alloc: Global, cases: &SendCases) -> Result<SendCases, NoMemor
 }
 
 /// The same body of every other number.
-pub fn copy_last(alloc: Global, last: &Option<SendOps>) -> Result<Option<SendOps>, NoMemory>
+pub fn copy_last(alloc: Global, last: &SendLast) -> Result<Option<SendOps>, NoMemory>
     ensures { IfOk result (λ l. l ≡ last.now) }
 {
     match last {

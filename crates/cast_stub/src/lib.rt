@@ -21,6 +21,6 @@ pub use laws::{
     costs_add_up, ensures_run_no_call, more_room_never_harms, steps_write_in_turn,
 };
 pub use put::{HeadField, Path, Put, Puts};
-pub use recv::{Get, Gets, RecvCases, RecvCode, RecvOp, RecvOps, RecvSubs};
+pub use recv::{Get, Gets, RecvCases, RecvCode, RecvLast, RecvOp, RecvOps, RecvSubs};
 pub use recv_laws::{earlier_tests_add, recv_code_after_code, recv_code_for_a_part};
-pub use send::{SendCases, SendCode, SendOp, SendOps, SendSubs, deepest_call};
+pub use send::{SendCases, SendCode, SendLast, SendOp, SendOps, SendSubs, deepest_call};

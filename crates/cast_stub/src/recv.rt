@@ -1,8 +1,12 @@
 //! Code that receives.
 
+ghost use Rattle.std.specs.Prelude.{◌≡◌, IfOk};
+ghost use Rattle.cast_stub.specs.declared.recv.RecvOp.TheVariants.{Switch};
+
 use crate::put::Path;
-use kit_base::{Listed, Octets};
+use kit_base::{Boxed, Listed, NoMemory, Octets};
 use mint::keyed::Keyed;
+use std::alloc::Global;
 use wire_def::Order;
 
 /// Operations, in order.
@@ -10,6 +14,9 @@ pub type RecvOps = Listed<RecvOp>;
 
 /// The bodies of a switch, each with its number.
 pub type RecvCases = Keyed<RecvOps>;
+
+/// The body of every number that a switch has no body for, if there is one.
+pub type RecvLast = Option<Boxed<RecvOps>>;
 
 /// Codes that call one another by their places.
 pub type RecvSubs = Listed<RecvOps>;
@@ -65,9 +72,27 @@ pub enum RecvOp {
     /// The body for each element, which is its current value.
     Each(Path, RecvOps),
     /// The body of the arm's number, or else the last one, on the arm's value.
-    Switch(Path, RecvCases, Option<RecvOps>),
+    Switch(Path, Boxed<RecvCases>, RecvLast),
     /// The body on the value, where there is one.
     Some(Path, RecvOps),
     /// The code of a number, on the value at a path.
     Call(u32, Path),
+}
+
+impl RecvOp {
+    /// A switch over the part at a path: the bodies of numbers, and that of every other, if there is one.
+    pub fn switch(
+        alloc: Global,
+        path: Path,
+        cases: RecvCases,
+        last: Option<RecvOps>,
+    ) -> Result<RecvOp, NoMemory>
+        ensures { IfOk result (λ op. op ≡ Switch path cases last) }
+    {
+        let last = match last {
+            Some(body) => Some(Boxed::new(alloc, body)?),
+            None => None,
+        };
+        Ok(RecvOp::Switch(path, Boxed::new(alloc, cases)?, last))
+    }
 }

@@ -1,11 +1,13 @@
 //! Code that sends.
 
-ghost use Rattle.std.specs.Prelude.{◌≡◌};
+ghost use Rattle.std.specs.Prelude.{◌≡◌, IfOk};
 ghost use Rattle.cast_stub.specs.Subs.{deepest};
+ghost use Rattle.cast_stub.specs.declared.send.SendOp.TheVariants.{Switch};
 
 use crate::put::{Path, Puts};
-use kit_base::Listed;
+use kit_base::{Boxed, Listed, NoMemory};
 use mint::keyed::Keyed;
+use std::alloc::Global;
 use wire_def::Order;
 
 /// Operations, in order.
@@ -13,6 +15,9 @@ pub type SendOps = Listed<SendOp>;
 
 /// The bodies of a switch, each with its number.
 pub type SendCases = Keyed<SendOps>;
+
+/// The body of every number that a switch has no body for, if there is one.
+pub type SendLast = Option<Boxed<SendOps>>;
 
 /// Codes that call one another by their places.
 pub type SendSubs = Listed<SendOps>;
@@ -47,13 +52,31 @@ pub enum SendOp {
     /// The body for each element, which is its current value.
     Each(Path, SendOps),
     /// The body of the arm's number, or else the last one, on the arm's value.
-    Switch(Path, SendCases, Option<SendOps>),
+    Switch(Path, Boxed<SendCases>, SendLast),
     /// The body on the value, where there is one.
     Some(Path, SendOps),
     /// The code of a number, on the value at a path.
     Call(u32, Path),
     /// Four octets at a place of the message: the length so far, less a number.
     Patch(u32, u32, Order),
+}
+
+impl SendOp {
+    /// A switch over the part at a path: the bodies of numbers, and that of every other, if there is one.
+    pub fn switch(
+        alloc: Global,
+        path: Path,
+        cases: SendCases,
+        last: Option<SendOps>,
+    ) -> Result<SendOp, NoMemory>
+        ensures { IfOk result (λ op. op ≡ Switch path cases last) }
+    {
+        let last = match last {
+            Some(body) => Some(Boxed::new(alloc, body)?),
+            None => None,
+        };
+        Ok(SendOp::Switch(path, Boxed::new(alloc, cases)?, last))
+    }
 }
 
 /// The calls of codes that may stand within one another, at most.

@@ -20,6 +20,8 @@ pub mod Shortness
 pub mod Moves
 -- * What is promised of chunked code, from what it is
 pub mod Clauses
+-- * What one more operation makes of code of either direction: operations in turn, the bodies of a switch, and what is left behind it
+pub mod Bodies
 -- * What one more operation makes of the code that is made so far
 pub mod Making
 -- * Each operation that receives before what follows it

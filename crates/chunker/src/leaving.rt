@@ -6,7 +6,7 @@ ghost use Rattle.chunker.specs.Left.{leave, looped, perhaps, switched, meet_end,
 ghost use Rattle.chunker.specs.Phases.{IsPhase, aligned};
 
 use crate::phase::{Phase, at_multiple, by_fours, gap, is_known, is_width, meet, shift, unknown};
-use cast_stub::{SendCases, SendOp, SendOps};
+use cast_stub::{SendCases, SendLast, SendOp, SendOps};
 
 /// Behind operations.
 #[cycle(leave)]
@@ -114,7 +114,7 @@ pub(crate) fn perhaps(phase: Phase, body: &SendOps) -> Phase
 }
 
 /// Behind a switch.
-pub(crate) fn switched(phase: Phase, cases: &SendCases, last: &Option<SendOps>) -> Phase
+pub(crate) fn switched(phase: Phase, cases: &SendCases, last: &SendLast) -> Phase
     requires phase { IsPhase phase }
     ensures is { result ≡ switched phase (cases_seen cases.now last.now) }
     ensures phase { IsPhase result }

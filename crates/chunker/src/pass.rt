@@ -77,7 +77,7 @@ fn put_op(alloc: Global, op: &SendOp, run: &mut Run) -> Result<(), NoMemory>
                 Some(body) => Some(chunk_ops(alloc, body, run.phase)?),
                 None => None,
             };
-            let made = SendOp::Switch(copy_path(alloc, path)?, bodies, other);
+            let made = SendOp::switch(alloc, copy_path(alloc, path)?, bodies, other)?;
             put_other(alloc, made, phase, run)
         }
         SendOp::Some(path, body) => {

@@ -7,7 +7,7 @@ ghost use Rattle.chunker.specs.Phases.{IsPhase};
 
 use crate::leaving::{leave_align, meet_end, or_unknown};
 use crate::phase::{Phase, by_fours, meet, shift, unknown};
-use cast_stub::{RecvCases, RecvOp, RecvOps};
+use cast_stub::{RecvCases, RecvLast, RecvOp, RecvOps};
 
 /// Behind operations.
 #[cycle(leave)]
@@ -75,7 +75,7 @@ pub(crate) fn perhaps(phase: Phase, body: &RecvOps) -> Phase
 }
 
 /// Behind a switch.
-pub(crate) fn switched(phase: Phase, cases: &RecvCases, last: &Option<RecvOps>) -> Phase
+pub(crate) fn switched(phase: Phase, cases: &RecvCases, last: &RecvLast) -> Phase
     requires phase { IsPhase phase }
     ensures is { result ≡ switched phase (cases_seen cases.now last.now) }
     ensures phase { IsPhase result }

@@ -87,7 +87,7 @@ fn put_op(alloc: Global, op: &RecvOp, run: &mut RecvRun) -> Result<(), NoMemory>
                 Some(body) => Some(chunk_ops(alloc, body, run.phase)?),
                 None => None,
             };
-            let made = RecvOp::Switch(copy_path(alloc, path)?, bodies, other);
+            let made = RecvOp::switch(alloc, copy_path(alloc, path)?, bodies, other)?;
             put_other(alloc, made, phase, run)
         }
         RecvOp::Some(path, body) => {

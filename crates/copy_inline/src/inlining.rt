@@ -12,7 +12,7 @@ ghost use Rattle.copy_inline.specs.Spliced.{spliced, inlined, pairs_seen, pairs_
 
 use cast_stub::copies::case_of;
 use cast_stub::copying::{add, path_after, puts_after};
-use cast_stub::{Path, SendCases, SendCode, SendOp, SendOps, SendSubs};
+use cast_stub::{Path, SendCases, SendCode, SendLast, SendOp, SendOps, SendSubs};
 use kit_base::NoMemory;
 use mint::table::NodeId;
 use std::alloc::Global;
@@ -95,10 +95,8 @@ fn put_op(
         SendOp::Switch(path, cases, other) => {
             let bodies = bodies_of(alloc, subs, calls, nested, cases)?;
             let last = last_of(alloc, subs, calls, nested, other)?;
-            add(
-                out,
-                SendOp::Switch(path_after(alloc, prefix, path)?, bodies, last),
-            )
+            let part = path_after(alloc, prefix, path)?;
+            add(out, SendOp::switch(alloc, part, bodies, last)?)
         }
         SendOp::Call(k, path) => {
             let part = path_after(alloc, prefix, path)?;
@@ -160,7 +158,7 @@ fn last_of(
     subs: &SendSubs,
     calls: u32,
     nested: u32,
-    other: &Option<SendOps>,
+    other: &SendLast,
 ) -> Result<Option<SendOps>, NoMemory>
     requires calls { nested ≤ calls }
     requires levels { CasesAre (IsShallow (sub_at subs.now) nested) (cases_seen [] other.now) }

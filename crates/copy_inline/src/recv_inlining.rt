@@ -12,7 +12,7 @@ ghost use Rattle.copy_inline.specs.RecvSpliced.{spliced, inlined, pairs_seen, pa
 use crate::inlining::{LEVELS, levels};
 use cast_stub::copying::path_after;
 use cast_stub::recv_copying::{add, gets_after};
-use cast_stub::{Path, RecvCases, RecvCode, RecvOp, RecvOps, RecvSubs};
+use cast_stub::{Path, RecvCases, RecvCode, RecvLast, RecvOp, RecvOps, RecvSubs};
 use kit_base::NoMemory;
 use mint::table::NodeId;
 use std::alloc::Global;
@@ -93,10 +93,8 @@ fn put_op(
         RecvOp::Switch(path, cases, other) => {
             let bodies = bodies_of(alloc, subs, calls, nested, cases)?;
             let last = last_of(alloc, subs, calls, nested, other)?;
-            add(
-                out,
-                RecvOp::Switch(path_after(alloc, prefix, path)?, bodies, last),
-            )
+            let part = path_after(alloc, prefix, path)?;
+            add(out, RecvOp::switch(alloc, part, bodies, last)?)
         }
         RecvOp::Call(k, path) => {
             let part = path_after(alloc, prefix, path)?;
@@ -157,7 +155,7 @@ fn last_of(
     subs: &RecvSubs,
     calls: u32,
     nested: u32,
-    other: &Option<RecvOps>,
+    other: &RecvLast,
 ) -> Result<Option<RecvOps>, NoMemory>
     requires calls { nested ≤ calls }
     requires levels { CasesAre (IsShallow (sub_at subs.now) nested) (cases_seen [] other.now) }

@@ -19,7 +19,7 @@ ghost use Rattle.copy_inline.specs.RecvRows.{GivesTheSame, IsGiven, IsRowed};
 use crate::recv_arrays::{copy_gets, put_row, put_text};
 use cast_stub::copies::copy_path;
 use cast_stub::recv_copying::add;
-use cast_stub::{Path, RecvCases, RecvCode, RecvOp, RecvOps, RecvSubs};
+use cast_stub::{Path, RecvCases, RecvCode, RecvLast, RecvOp, RecvOps, RecvSubs};
 use hoist::node_at;
 use kit_base::NoMemory;
 use mint::node::{Arms, Node};
@@ -82,7 +82,8 @@ fn put_op(
         }
         RecvOp::Switch(path, cases, last) => {
             let (bodies, other) = switch_bodies(alloc, enc, mint, id, path, cases, last)?;
-            add(out, RecvOp::Switch(copy_path(alloc, path)?, bodies, other))
+            let same = copy_path(alloc, path)?;
+            add(out, RecvOp::switch(alloc, same, bodies, other)?)
         }
         RecvOp::NeedRow(_, _, _) | RecvOp::Row(_, _) | RecvOp::RowWide(_, _) | RecvOp::Call(_, _) =>
             unreachable!(),
@@ -166,7 +167,7 @@ fn switch_bodies(
     id: NodeId,
     path: &Path,
     cases: &RecvCases,
-    last: &Option<RecvOps>,
+    last: &RecvLast,
 ) -> Result<(RecvCases, Option<RecvOps>), NoMemory>
     requires id { id < length mint.now }
     requires ready { OfType (arms_at path.now (type_at mint.now id))
@@ -239,7 +240,7 @@ fn rows_last(
     mint: &Mint,
     id: NodeId,
     other: Option<NodeId>,
-    last: &Option<RecvOps>,
+    last: &RecvLast,
 ) -> Result<Option<RecvOps>, NoMemory>
     requires id { id < length mint.now }
     requires other { IsBelow id other }

@@ -17,7 +17,7 @@ use crate::sorts::{Sort, sort_of};
 use cast_stub::copies::{copy_ops, copy_path, copy_puts};
 use cast_stub::copying::add;
 use cast_stub::layouts::order_of;
-use cast_stub::{Path, SendCases, SendCode, SendOp, SendOps, SendSubs};
+use cast_stub::{Path, SendCases, SendCode, SendLast, SendOp, SendOps, SendSubs};
 use hoist::node_at;
 use kit_base::NoMemory;
 use mint::kind::{Count, Kind};
@@ -84,7 +84,8 @@ fn put_op(
         }
         SendOp::Switch(path, cases, last) => {
             let (bodies, other) = switch_bodies(alloc, enc, mint, id, path, cases, last)?;
-            add(out, SendOp::Switch(copy_path(alloc, path)?, bodies, other))
+            let same = copy_path(alloc, path)?;
+            add(out, SendOp::switch(alloc, same, bodies, other)?)
         }
         SendOp::RowCopy(_) | SendOp::RowSwap(_) | SendOp::RowWide(_, _) | SendOp::Call(_, _) => {
             unreachable!()
@@ -201,7 +202,7 @@ fn switch_bodies(
     id: NodeId,
     path: &Path,
     cases: &SendCases,
-    last: &Option<SendOps>,
+    last: &SendLast,
 ) -> Result<(SendCases, Option<SendOps>), NoMemory>
     requires id { id < length mint.now }
     requires ready { OfType (arms_at path.now (type_at mint.now id))
@@ -274,7 +275,7 @@ fn rows_last(
     mint: &Mint,
     id: NodeId,
     other: Option<NodeId>,
-    last: &Option<SendOps>,
+    last: &SendLast,
 ) -> Result<Option<SendOps>, NoMemory>
     requires id { id < length mint.now }
     requires other { IsBelow id other }

@@ -117,20 +117,21 @@ module _ (enc : Encoding) (t : Ty) where
       (some_plan (span_roles enc) t path (code_seen body)) back mid new ah then
       (λ r. ap (λ (p : Piece). hoisted (span_roles enc) t (p r)) (ap op_seen is ∙ seen-Some path body)) (seen-Some path'' inner)
 
-  pub front-switch : (o : SendOp) (path path' path'' : List ℕ) (cases bodies : List (ℤ × List SendOp)) (last rest : Option (List SendOp))
-      (plan : CodePlan) (back mid new : List SendOp) (ah then : Ahead) → o ≡ op.Switch path cases last → path' ≡ path → path'' ≡ path
+  pub front-switch : (o o' : SendOp) (path path' path'' : List ℕ) (cases bodies : List (ℤ × List SendOp)) (last rest : Option (List SendOp))
+      (plan : CodePlan) (back mid new : List SendOp) (ah then : Ahead) → o ≡ op.Switch path cases last
+      → o' ≡ op.Switch path'' bodies rest → path' ≡ path → path'' ≡ path
       → plan_seen path plan ≡ switch_plan (span_roles enc) t path (cases_seen cases last)
       → cases_seen bodies rest
       ≡ kept (plan_seen path plan) (cases_seen cases last)
       (cases_hoisted (span_roles enc) (or_none (arms_at path t)) (cases_seen cases last))
-      → after mid then ≡ settled (plan_seen path' plan) (after back ah) → new ≡ mid ++ op.Switch path'' bodies rest ∷ []
+      → after mid then ≡ settled (plan_seen path' plan) (after back ah) → new ≡ mid ++ o' ∷ []
       → InFront enc t o (after back ah) (after new then)
-  front-switch o path path' path'' cases bodies last rest plan back mid new ah then is =
-      front-bodies o (op.Switch path'' bodies rest) switch path path' path'' (cases_seen cases last) (cases_seen bodies rest)
+  front-switch o o' path path' path'' cases bodies last rest plan back mid new ah then is made =
+      front-bodies o o' switch path path' path'' (cases_seen cases last) (cases_seen bodies rest)
       (cases_hoisted (span_roles enc) (or_none (arms_at path t)) (cases_seen cases last)) plan
       (switch_plan (span_roles enc) t path (cases_seen cases last)) back mid new ah then
       (λ r. ap (λ (p : Piece). hoisted (span_roles enc) t (p r)) (ap op_seen is ∙ seen-Switch path cases last))
-      (seen-Switch path'' bodies rest)
+      (ap op_seen made ∙ seen-Switch path'' bodies rest)
 
   -- the bodies of a switch that is taken
   pub switch-taken : (o : SendOp) (path : List ℕ) (cases : List (ℤ × List SendOp)) (last : Option (List SendOp)) (plan : CodePlan)

@@ -10,7 +10,7 @@ ghost use Rattle.hoist.specs.Bound.{bound, most, plus, times, greater, cases_bou
 ghost use Rattle.cast_stub.specs.PartTypes.{element_at, present_at, arms_at};
 
 use crate::parts::node_at;
-use cast_stub::{Path, SendCases, SendOp, SendOps};
+use cast_stub::{Path, SendCases, SendLast, SendOp, SendOps};
 use kit_base::NoMemory;
 use mint::kind::Count;
 use mint::node::{Arms, Node};
@@ -234,7 +234,7 @@ pub(crate) fn switch_bound(
     id: NodeId,
     path: &Path,
     cases: &SendCases,
-    last: &Option<SendOps>,
+    last: &SendLast,
 ) -> Result<Option<u32>, NoMemory>
     requires { id < length mint.now }
     ensures { IfOk result (λ n. n ≡ on_some (arms_at path.now (type_at mint.now id))
@@ -267,7 +267,7 @@ fn arms_bound(
     arms: &Arms,
     other: Option<NodeId>,
     cases: &SendCases,
-    last: &Option<SendOps>,
+    last: &SendLast,
 ) -> Result<Option<u32>, NoMemory>
     requires id { id < length mint.now }
     requires arms { ArmsBelow id arms.now }
@@ -293,7 +293,7 @@ fn last_bound(
     mint: &Mint,
     id: NodeId,
     other: Option<NodeId>,
-    last: &Option<SendOps>,
+    last: &SendLast,
 ) -> Result<Option<u32>, NoMemory>
     requires id { id < length mint.now }
     requires other { IsBelow id other }

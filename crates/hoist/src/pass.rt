@@ -16,7 +16,7 @@ use crate::ahead::{Ahead, Plan, flush, raise, settle};
 use crate::parts::node_at;
 use crate::plans::{each_plan, some_plan, switch_plan};
 use cast_stub::copies::{copy_cases, copy_last, copy_ops, copy_path, copy_puts};
-use cast_stub::{Path, SendCases, SendCode, SendOp, SendOps, SendSubs};
+use cast_stub::{Path, SendCases, SendCode, SendLast, SendOp, SendOps, SendSubs};
 use kit_base::NoMemory;
 use mint::node::{Arms, Node};
 use mint::table::{Mint, NodeId};
@@ -108,7 +108,7 @@ fn hoist_op(
             let plan = switch_plan(mint, classes, id, path, cases, last)?;
             let (bodies, other) = switch_bodies(alloc, mint, classes, id, path, cases, last, plan)?;
             let then = settle(back, ahead, plan, copy_path(alloc, path)?)?;
-            back.push(SendOp::Switch(copy_path(alloc, path)?, bodies, other))?;
+            back.push(SendOp::switch(alloc, copy_path(alloc, path)?, bodies, other)?)?;
             Ok(then)
         }
         SendOp::Ensure(_)
@@ -195,7 +195,7 @@ fn switch_bodies(
     id: NodeId,
     path: &Path,
     cases: &SendCases,
-    last: &Option<SendOps>,
+    last: &SendLast,
     plan: Plan,
 ) -> Result<(SendCases, Option<SendOps>), NoMemory>
     requires id { id < length mint.now }
@@ -279,7 +279,7 @@ fn hoist_last(
     classes: &Classes,
     id: NodeId,
     other: Option<NodeId>,
-    last: &Option<SendOps>,
+    last: &SendLast,
 ) -> Result<Option<SendOps>, NoMemory>
     requires id { id < length mint.now }
     requires classes { AreClasses mint.now classes.now }

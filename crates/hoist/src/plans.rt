@@ -10,7 +10,7 @@ ghost use Rattle.hoist.specs.Seen.{plan_seen, span_roles};
 use crate::ahead::Plan;
 use crate::bounding::{loop_bound, some_bound, switch_bound, turn_bound};
 use crate::roles::{Role, part_role};
-use cast_stub::{Path, SendCases, SendOps};
+use cast_stub::{Path, SendCases, SendLast, SendOps};
 use kit_base::NoMemory;
 use mint::table::{Mint, NodeId};
 use storage_class::Classes;
@@ -79,7 +79,7 @@ pub(crate) fn switch_plan(
     id: NodeId,
     path: &Path,
     cases: &SendCases,
-    last: &Option<SendOps>,
+    last: &SendLast,
 ) -> Result<Plan, NoMemory>
     requires id { id < length mint.now }
     requires classes { AreClasses mint.now classes.now }

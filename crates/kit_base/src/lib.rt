@@ -5,6 +5,7 @@
 //! faults.
 #![tactic(auto)]
 
+mod boxed;
 mod decimal;
 mod errors;
 pub mod limits;
@@ -19,9 +20,10 @@ mod plan;
 mod reading;
 mod std_ends;
 
+pub use boxed::Boxed;
 pub use errors::{Failed, NoMemory};
 pub use lines::{Line, LineErr, Lines};
-pub use listed::{Listed, Name, Octets, Words};
+pub use listed::{Listed, Name, Octets, Words, make_room};
 pub use mem_shelf::MemShelf;
 pub use mem_sink::{MemSink, SureSink};
 pub use mem_source::{MemSource, MemSure};

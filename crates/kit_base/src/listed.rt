@@ -10,6 +10,28 @@ use std::marker::Model;
 /// The items from which on a vector doubles its room: it takes room for so many at its first item.
 const FEW: usize = 4;
 
+/// Makes room for one item more in a vector that has room for a few, and has none left.
+#[inline(always)]
+pub fn make_room<T>(items: &mut Vec<T>) -> Result<(), NoMemory>
+    ensures { items.new.items ≡ items.old.items }
+{
+    if items.capacity() < FEW {
+        return add_room(items);
+    }
+    Ok(())
+}
+
+/// Makes room for one item more in a vector that has none left.
+#[cold]
+fn add_room<T>(items: &mut Vec<T>) -> Result<(), NoMemory>
+    ensures { items.new.items ≡ items.old.items }
+{
+    if items.len() == items.capacity() {
+        items.reserve_exact(1)?;
+    }
+    Ok(())
+}
+
 /// A list over a vector, which contracts see as the list of its items.
 #[derive(Debug, Drop)]
 pub struct Listed<T> {
@@ -60,19 +82,6 @@ impl<T> Listed<T> {
         self.items.get(i)
     }
 
-    /// Makes room for one item, or for as many as there are, where there is none.
-    #[cold]
-    fn make_room(&mut self) -> Result<(), NoMemory>
-        ensures { self.new ≡ self.old }
-    {
-        let items = self.items.len();
-        let more = if items == 0 { 1 } else { items };
-        if items == self.items.capacity() {
-            self.items.reserve_exact(more)?;
-        }
-        Ok(())
-    }
-
     /// Exchanges the item at a place, counted from 0, with `item`.
     pub fn exchange(&mut self, at: usize, item: &mut T)
         requires { at < length self.old }
@@ -96,9 +105,7 @@ impl<T: Drop> Listed<T> {
         ensures ok { OnOk result (self.new ≡ self.old ++ item ∷ []) }
         ensures err { OnErr result (self.new ≡ self.old) }
     {
-        if self.items.capacity() < FEW {
-            self.make_room()?;
-        }
+        make_room(&mut self.items)?;
         self.items.push(item)?;
         Ok(())
     }

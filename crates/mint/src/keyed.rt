@@ -4,7 +4,7 @@ ghost use Rattle.std.specs.Prelude.{◌≡◌, ◌<◌, ℤ, [], ◌∷◌, ◌+
 ghost use Rattle.std.specs.Option.{option_copied};
 ghost use Rattle.mint.specs.Keyed.{IsMark, Rise, place_of};
 
-use kit_base::NoMemory;
+use kit_base::{NoMemory, make_room};
 use std::alloc::Global;
 use std::marker::Model;
 
@@ -159,6 +159,7 @@ impl<T: Drop> Keyed<T> {
         ensures err { OnErr result (self.new ≡ self.old) }
     {
         let above = is_above(self.entries.as_slice(), &entry.0);
+        make_room(&mut self.entries)?;
         self.entries.push(entry)?;
         self.rising = self.rising && above;
         Ok(())

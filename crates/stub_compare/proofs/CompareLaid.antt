@@ -1,8 +1,7 @@
 -- The octets of a chunk, laid one after the other, by induction on the places.
 use Rattle.std.proofs.Common.{◌≡◌, ℕ, zero, suc, ◌+◌, ◌<◌, ◌≤◌, Bool, true, false, ◌||◌, inl, inr, refl, sym, ap, ◌∙◌, arith, List, [], ◌∷◌, length, map, drop, get_or, set, slice_get, Option, Some, None, option_map, eqb, add-one, subst, if◌then◌else◌}
 use Rattle.std.specs.List.{range_with_len}
-use Rattle.std.proofs.lemmas.Bool.{eqb-true}
-use Rattle.stub_compare.proofs.CompareBools.{one_is}
+use Rattle.std.proofs.lemmas.Bool.{eqb-true, or_cases}
 use Rattle.wire_def.specs.declared.head.Order.{Order}
 use Rattle.wire_def.specs.declared.head.Order.TheVariants.{Big, Little}
 use Rattle.cast_stub.specs.declared.put.Put.{Put}
@@ -83,9 +82,9 @@ put_seen ps (suc n) os (c ∷ cs) =
 pub at_width : (P : ℕ → Type 0) → P 1 → P 2 → P 4 → P 8 → (w : ℕ) → is_width w ≡ true → P w
 at_width P a b c d w e =
     let at = λ (n : ℕ) (h : eqb w n ≡ true) (p : P n). subst P (sym (eqb-true w n h)) p in
-    elim (one_is (eqb w 1 || eqb w 2 || eqb w 4) (eqb w 8) e) [
-      | inl x ↦ elim (one_is (eqb w 1 || eqb w 2) (eqb w 4) x) [
-        | inl y ↦ elim (one_is (eqb w 1) (eqb w 2) y) [ inl z ↦ at 1 z a | inr z ↦ at 2 z b ]
+    elim (or_cases (eqb w 1 || eqb w 2 || eqb w 4) (eqb w 8) e) [
+      | inl x ↦ elim (or_cases (eqb w 1 || eqb w 2) (eqb w 4) x) [
+        | inl y ↦ elim (or_cases (eqb w 1) (eqb w 2) y) [ inl z ↦ at 1 z a | inr z ↦ at 2 z b ]
         | inr z ↦ at 4 z c
       ]
       | inr z ↦ at 8 z d

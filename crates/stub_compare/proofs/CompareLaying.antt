@@ -2,7 +2,6 @@
 use Rattle.std.proofs.Common.{◌≡◌, ℕ, zero, suc, ◌+◌, ◌-◌, ◌<◌, ◌≤◌, Bool, true, false, List, [], ◌∷◌, length, map, drop, get_or, replicate, slice_get, Option, Some, None, Result, IfOk, option_map, refl, sym, ap, ◌∙◌, subst, arith}
 use Rattle.std.specs.List.{range_with_len}
 use Rattle.std.proofs.Math.ListN.{drop_of_length-le}
-use Rattle.std.proofs.Math.Seq.{drop-cons}
 use Rattle.std.proofs.lemmas.List.FromFn.{length-map-range_with_len}
 use Rattle.cast_stub.specs.declared.put.Put.{Put}
 use Rattle.cast_stub.specs.Parts.{on_some}
@@ -11,7 +10,7 @@ use Rattle.stub_flat.specs.Items.{Cell, Places, piece, put_on, puts_on, all_put,
 use Rattle.stub_compare.specs.CompareCells.{Owner, is_turned, laid, laid_one, lengths, owned, owners, plus, put_length, seen, turned_at}
 use Rattle.stub_compare.specs.CompareText.{cell_text, cells_text}
 use Rattle.stub_compare.specs.CompareTold.{IsLed, IsLedWhere, IsPut, IsTold}
-use Rattle.stub_compare.proofs.CompareLists.{first_of, next_is, range_all, range_next, range_none}
+use Rattle.stub_compare.proofs.CompareLists.{first_of, first_or, range_all, range_next, range_none}
 use Rattle.stub_compare.proofs.CompareLaid.{laid_all, laid_more, laid_outside, no_piece, piece_owned, put_seen}
 use Rattle.stub_compare.proofs.CompareCounts.{cells_lengths}
 use Rattle.stub_compare.proofs.CompareOps.{absent_told, led_absent, led_then, told_absent}
@@ -211,8 +210,7 @@ place_led false (Some x) cs old new h = absurd h
 place_led false None cs old new h = refl
 
 pub opened : (xs : List (Option Owner)) (i : ℕ) (c : Option Owner) → i < length xs → c ≡ get_or xs i None → drop i xs ≡ c ∷ drop (i + 1) xs
-opened xs i c less at = drop-cons xs i None less ∙ ap (λ (y : Option Owner). y ∷ drop (suc i) xs) (sym at)
-    ∙ ap (λ k. c ∷ drop k xs) (next_is i)
+opened xs i c = first_or xs i c None
 
 pub place_more : (all : Option (List Cell)) (ps : List Put) (xs : List (Option Owner)) (i : ℕ) (c : Option Owner) (old mid new : List ℕ)
     → i < length xs → c ≡ get_or xs i None → IsLed cells_text all (all_put (seen ps (drop i xs))) old mid

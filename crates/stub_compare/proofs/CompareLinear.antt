@@ -1,20 +1,17 @@
 -- What code makes of a set of residues is what it makes of each residue and of none, by induction on the code.
-use Rattle.std.proofs.Common.{◌≡◌, ℕ, zero, suc, ◌+◌, ◌-◌, ◌%◌, ◌<◌, ◌≤◌, Bool, true, false, ◌&&◌, ◌||◌, not, ◌⊎◌, inl, inr, refl, sym, ◌∙◌, subst, arith, List, Option, lit≤, eq-eqb, if◌then◌else◌}
+use Rattle.std.proofs.Common.{◌≡◌, ℕ, zero, suc, ◌+◌, ◌-◌, ◌%◌, ◌<◌, ◌≤◌, Bool, true, false, ◌&&◌, ◌||◌, ◌⊎◌, inl, inr, refl, sym, ◌∙◌, subst, arith, List, Option, lit≤, eq-eqb, if◌then◌else◌}
 use Rattle.std.specs.Prelude.{nat_eq}
-use Rattle.std.proofs.lemmas.Bool.{eqb-true}
+use Rattle.std.proofs.lemmas.Bool.{eqb-true, and_parts, and_from, or_cases, or_left, or_right}
 use Rattle.mint.specs.declared.node.Node.{Node}
 use Rattle.wire_def.specs.Scalars.{gap}
 use Rattle.cast_stub.specs.Steps.{is_width}
 use Rattle.cast_stub.specs.Block.{Block, stop, ensure, ensure_row, align, chunk, row_copy, row_swap, row_wide, each, switch, if_there, call, patch, Cases, no_default, default, case}
 use Rattle.stub_flat.specs.Places.{Spot, node_of, spot_at, element, present, row_kind, arm_spot, rest_spot}
-use Rattle.stub_flat.specs.Residues.{Residues, only, every, none, sum, moved, comes, aligned, within_first, is_within, size_first, closing, closed}
+use Rattle.stub_flat.specs.Residues.{Residues, only, every, none, sum, moved, comes, aligned, is_within, size_first, closing, closed}
 use Rattle.stub_flat.specs.Leaves.{width_of, leaves, ways_leave}
+use Rattle.stub_flat.proofs.Sets.{Within, closed_has, closed_within}
 use Rattle.stub_compare.specs.CompareSets.{Agree}
-use Rattle.stub_compare.proofs.CompareBools.{both_are, and_is, one_is, left_is, right_is, same_truth, chosen, at_or_below}
-
--- each residue of one is in the other
-abbrev pub Within : Residues → Residues → Type 0
-Within S T = (r : ℕ) → r < 8 → S r ≡ true → T r ≡ true
+use Rattle.stub_compare.proofs.CompareBools.{same_truth, chosen, at_or_below}
 
 -- a residue of a set, from which a function leads to another
 pub record Origin (f : Residues → Residues) (S : Residues) (r : ℕ) : Type 0 where
@@ -88,34 +85,28 @@ linear_after f g l m = record {
   from = after_from f g l m;
 }
 
+-- a residue to which a function leads, where it leads to no more than another does
+led_also : (f g : Residues → Residues) → IsLinear f → (S : Residues) (r : ℕ) → ((X : Residues) → f X r ≡ true → g X r ≡ true) → r < 8
+    → f S r ≡ true → (g none r ≡ true) ⊎ Origin g S r
+led_also f g l S r also lt e = elim (l.from S r lt e) [
+  | inl n ↦ inl (also none n)
+  | inr o ↦ inr (record { residue = o.residue; small = o.small; inside = o.inside; leads = also (only o.residue) o.leads })
+]
+
 sum_from : (f g : Residues → Residues) → IsLinear f → IsLinear g → (S : Residues) (r : ℕ) → r < 8 → (f S r || g S r) ≡ true
     → ((f none r || g none r) ≡ true) ⊎ Origin (λ X. sum (f X) (g X)) S r
-sum_from f g l m S r lt e = elim (one_is (f S r) (g S r) e) [
-  | inl x ↦ elim (l.from S r lt x) [
-    | inl n ↦ inl (left_is (f none r) (g none r) n)
-    | inr o ↦ inr (record {
-      residue = o.residue;
-      small = o.small;
-      inside = o.inside;
-      leads = left_is (f (only o.residue) r) (g (only o.residue) r) o.leads;
-    })
-  ]
-  | inr y ↦ elim (m.from S r lt y) [
-    | inl n ↦ inl (right_is (f none r) (g none r) n)
-    | inr o ↦ inr (record {
-      residue = o.residue;
-      small = o.small;
-      inside = o.inside;
-      leads = right_is (f (only o.residue) r) (g (only o.residue) r) o.leads;
-    })
-  ]
-]
+sum_from f g l m S r lt e =
+    let all : Residues → Residues = λ X. sum (f X) (g X) in
+    elim (or_cases (f S r) (g S r) e) [
+      | inl x ↦ led_also f all l S r (λ X. or_left (f X r) (g X r)) lt x
+      | inr y ↦ led_also g all m S r (λ X. or_right (f X r) (g X r)) lt y
+    ]
 
 sum_up : (f g : Residues → Residues) → IsLinear f → IsLinear g → (S T : Residues) → Within S T → (r : ℕ) → r < 8
     → (f S r || g S r) ≡ true → (f T r || g T r) ≡ true
-sum_up f g l m S T h r lt e = elim (one_is (f S r) (g S r) e) [
-  | inl x ↦ left_is (f T r) (g T r) (l.up S T h r lt x)
-  | inr y ↦ right_is (f T r) (g T r) (m.up S T h r lt y)
+sum_up f g l m S T h r lt e = elim (or_cases (f S r) (g S r) e) [
+  | inl x ↦ or_left (f T r) (g T r) (l.up S T h r lt x)
+  | inr y ↦ or_right (f T r) (g T r) (m.up S T h r lt y)
 ]
 
 pub linear_sum : (f g : Residues → Residues) → IsLinear f → IsLinear g → IsLinear (λ S. sum (f S) (g S))
@@ -138,11 +129,11 @@ linear_moved n = record {
 
 comes_up : (k a : ℕ) (S T : Residues) (r : ℕ) → k ≤ 8 → Within S T → comes k a S r ≡ true → comes k a T r ≡ true
 comes_up zero a S T r le h e = e
-comes_up (suc k) a S T r le h e = elim (one_is (S k && nat_eq ((k + gap k a) % 8) r) (comes k a S r) e) [
-  | inl x ↦ (let both = both_are (S k) (nat_eq ((k + gap k a) % 8) r) x in
-      left_is (T k && nat_eq ((k + gap k a) % 8) r) (comes k a T r)
-      (and_is (T k) (nat_eq ((k + gap k a) % 8) r) (h k (omega arith) both.0) both.1))
-  | inr y ↦ right_is (T k && nat_eq ((k + gap k a) % 8) r) (comes k a T r) (comes_up k a S T r (omega arith) h y)
+comes_up (suc k) a S T r le h e = elim (or_cases (S k && nat_eq ((k + gap k a) % 8) r) (comes k a S r) e) [
+  | inl x ↦ (let both = and_parts (S k) (nat_eq ((k + gap k a) % 8) r) x in
+      or_left (T k && nat_eq ((k + gap k a) % 8) r) (comes k a T r)
+      (and_from (T k) (nat_eq ((k + gap k a) % 8) r) (h k (omega arith) both.0) both.1))
+  | inr y ↦ or_right (T k && nat_eq ((k + gap k a) % 8) r) (comes k a T r) (comes_up k a S T r (omega arith) h y)
 ]
 
 -- a residue from which an align leads to another
@@ -157,8 +148,8 @@ led_more k a S r l = record { residue = l.residue; small = omega (arith, l.small
 
 comes_led : (k a : ℕ) (S : Residues) (r : ℕ) → comes k a S r ≡ true → Led k a S r
 comes_led zero a S r e = absurd (cc)
-comes_led (suc k) a S r e = elim (one_is (S k && nat_eq ((k + gap k a) % 8) r) (comes k a S r) e) [
-  | inl x ↦ (let both = both_are (S k) (nat_eq ((k + gap k a) % 8) r) x in
+comes_led (suc k) a S r e = elim (or_cases (S k && nat_eq ((k + gap k a) % 8) r) (comes k a S r) e) [
+  | inl x ↦ (let both = and_parts (S k) (nat_eq ((k + gap k a) % 8) r) x in
       record { residue = k; small = omega arith; inside = both.0; leads = both.1 })
   | inr y ↦ led_more k a S r (comes_led k a S r y)
 ]
@@ -167,9 +158,9 @@ led_comes : (k a : ℕ) (S : Residues) (r q : ℕ) → q < k → S q ≡ true �
 led_comes zero a S r q lt inside leads = absurd (omega arith)
 led_comes (suc k) a S r q lt inside leads = elim (at_or_below q k lt) [
   | inl same ↦ (let P : ℕ → Type 0 = λ z. (S z && nat_eq ((z + gap z a) % 8) r) ≡ true in
-      left_is (S k && nat_eq ((k + gap k a) % 8) r) (comes k a S r)
-      (subst P same (and_is (S q) (nat_eq ((q + gap q a) % 8) r) inside leads)))
-  | inr below ↦ right_is (S k && nat_eq ((k + gap k a) % 8) r) (comes k a S r) (led_comes k a S r q below inside leads)
+      or_left (S k && nat_eq ((k + gap k a) % 8) r) (comes k a S r)
+      (subst P same (and_from (S q) (nat_eq ((q + gap q a) % 8) r) inside leads)))
+  | inr below ↦ or_right (S k && nat_eq ((k + gap k a) % 8) r) (comes k a S r) (led_comes k a S r q below inside leads)
 ]
 
 pub linear_aligned : (a : ℕ) → IsLinear (aligned a)
@@ -187,82 +178,6 @@ linear_aligned a = record {
 
 -- ---- closing
 
-abbrev bit : Bool → ℕ
-bit b = if b then 1 else 0
-
-bit_or : (a b : Bool) → bit a ≤ bit (a || b)
-bit_or true b = omega arith
-bit_or false true = omega arith
-bit_or false false = omega arith
-
-bit_more : (a b : Bool) → (not b || a) ≡ false → bit a < bit (a || b)
-bit_more true true e = absurd (cc)
-bit_more true false e = absurd (cc)
-bit_more false true e = omega arith
-bit_more false false e = absurd (cc)
-
-bit_most : (a : Bool) → bit a ≤ 1
-bit_most true = omega arith
-bit_most false = omega arith
-
-bit_full : (a : Bool) → 1 ≤ bit a → a ≡ true
-bit_full true h = refl
-bit_full false h = absurd (omega (arith, h))
-
-keeps : (k : ℕ) (S A : Residues) → size_first k S ≤ size_first k (sum S A)
-keeps zero S A = omega arith
-keeps (suc k) S A = omega (arith, bit_or (S k) (A k), keeps k S A)
-
-either_false : (a b : Bool) → (a && b) ≡ false → (a ≡ false) ⊎ (b ≡ false)
-either_false true b e = inr e
-either_false false b e = inl refl
-
-grows : (k : ℕ) (S A : Residues) → within_first k A S ≡ false → size_first k S < size_first k (sum S A)
-grows zero S A e = absurd (cc)
-grows (suc k) S A e = elim (either_false (not (A k) || S k) (within_first k A S) e) [
-  | inl x ↦ omega (arith, bit_more (S k) (A k) x, keeps k S A)
-  | inr y ↦ omega (arith, bit_or (S k) (A k), grows k S A y)
-]
-
-at_most : (k : ℕ) (S : Residues) → size_first k S ≤ k
-at_most zero S = omega arith
-at_most (suc k) S = omega (arith, bit_most (S k), at_most k S)
-
-full : (k : ℕ) (S : Residues) → k ≤ size_first k S → (r : ℕ) → r < k → S r ≡ true
-full zero S h r lt = absurd (omega arith)
-full (suc k) S h r lt = elim (at_or_below r k lt) [
-  | inl same ↦ (let P : ℕ → Type 0 = λ z. S z ≡ true in
-      subst P (sym same) (bit_full (S k) (omega (arith, h, at_most k S))))
-  | inr below ↦ full k S (omega (arith, h, bit_most (S k))) r below
-]
-
-or_of : (a s : Bool) → (not a || s) ≡ true → a ≡ true → s ≡ true
-or_of true s e is = e
-or_of false s e is = absurd (cc)
-
-within_is : (k : ℕ) (A S : Residues) → within_first k A S ≡ true → (r : ℕ) → r < k → A r ≡ true → S r ≡ true
-within_is zero A S e r lt is = absurd (omega arith)
-within_is (suc k) A S e r lt is =
-    let both = both_are (not (A k) || S k) (within_first k A S) e in
-    elim (at_or_below r k lt) [
-      | inl same ↦ (let P : ℕ → Type 0 = λ z. A z ≡ true → S z ≡ true in subst P (sym same) (or_of (A k) (S k) both.0) is)
-      | inr below ↦ within_is k A S both.1 r below is
-    ]
-
-contains : (f : Residues → Residues) (n : ℕ) (S : Residues) → Within S (closing n f S)
-contains f zero S = λ r lt e. e
-contains f (suc n) S =
-    let P : Residues → Type 0 = λ Z. Within S Z in
-    chosen P (is_within (f S) S) S (closing n f (sum S (f S))) (λ is r lt e. e)
-    (λ is r lt e. contains f n (sum S (f S)) r lt (left_is (S r) (f S r) e))
-
-stays : (f : Residues → Residues) (n : ℕ) (S : Residues) → 8 ≤ n + size_first 8 S → Within (f (closing n f S)) (closing n f S)
-stays f zero S h = λ r lt e. full 8 S (omega (arith, h)) r lt
-stays f (suc n) S h =
-    let P : Residues → Type 0 = λ Z. Within (f Z) Z in
-    chosen P (is_within (f S) S) S (closing n f (sum S (f S))) (λ is. within_is 8 (f S) S is)
-    (λ is. stays f n (sum S (f S)) (omega (arith, h, grows 8 S (f S) is)))
-
 least : (f : Residues → Residues) (P : ℕ → Type 0)
     → ((X : Residues) → ((r : ℕ) → r < 8 → X r ≡ true → P r) → (r : ℕ) → r < 8 → f X r ≡ true → P r) → (n : ℕ) (S : Residues)
     → ((r : ℕ) → r < 8 → S r ≡ true → P r) → (r : ℕ) → r < 8 → closing n f S r ≡ true → P r
@@ -271,33 +186,27 @@ least f P step (suc n) S base =
     let Q : Residues → Type 0 = λ Z. (r : ℕ) → r < 8 → Z r ≡ true → P r in
     chosen Q (is_within (f S) S) S (closing n f (sum S (f S))) (λ is. base)
     (λ is. least f P step n (sum S (f S))
-    (λ r lt e. elim (one_is (S r) (f S r) e) [ inl x ↦ base r lt x | inr y ↦ step S base r lt y ]))
-
-closed_stays : (f : Residues → Residues) (S : Residues) → Within (f (closed f S)) (closed f S)
-closed_stays f S = stays f (8 - size_first 8 S) S (omega arith)
-
-closed_contains : (f : Residues → Residues) (S : Residues) → Within S (closed f S)
-closed_contains f S = contains f (8 - size_first 8 S) S
+    (λ r lt e. elim (or_cases (S r) (f S r) e) [ inl x ↦ base r lt x | inr y ↦ step S base r lt y ]))
 
 closed_up : (f : Residues → Residues) → IsLinear f → (S T : Residues) → Within S T → Within (closed f S) (closed f T)
 closed_up f l S T h =
     let P : ℕ → Type 0 = λ r. closed f T r ≡ true in
-    least f P (λ X inside r lt e. closed_stays f T r lt (l.up X (closed f T) inside r lt e)) (8 - size_first 8 S) S
-    (λ r lt e. closed_contains f T r lt (h r lt e))
+    least f P (λ X inside r lt e. closed_within f T r lt (l.up X (closed f T) inside r lt e)) (8 - size_first 8 S) S
+    (λ r lt e. closed_has f T r lt (h r lt e))
 
 closed_step : (f : Residues → Residues) → IsLinear f → (S X : Residues)
     → ((r : ℕ) → r < 8 → X r ≡ true → (closed f none r ≡ true) ⊎ Origin (closed f) S r) → (r : ℕ) → r < 8 → f X r ≡ true
     → (closed f none r ≡ true) ⊎ Origin (closed f) S r
 closed_step f l S X inside r lt e = elim (l.from X r lt e) [
-  | inl n ↦ inl (closed_stays f none r lt (l.up none (closed f none) (none_within (closed f none)) r lt n))
+  | inl n ↦ inl (closed_within f none r lt (l.up none (closed f none) (none_within (closed f none)) r lt n))
   | inr o ↦ elim (inside o.residue o.small o.inside) [
-    | inl n ↦ inl (closed_stays f none r lt
+    | inl n ↦ inl (closed_within f none r lt
         (l.up (only o.residue) (closed f none) (only_within o.residue (closed f none) n) r lt o.leads))
     | inr p ↦ inr (record {
       residue = p.residue;
       small = p.small;
       inside = p.inside;
-      leads = closed_stays f (only p.residue) r lt
+      leads = closed_within f (only p.residue) r lt
           (l.up (only o.residue) (closed f (only p.residue)) (only_within o.residue (closed f (only p.residue)) p.leads) r lt o.leads);
     })
   ]
@@ -312,7 +221,7 @@ closed_from f l S =
       residue = r;
       small = lt;
       inside = e;
-      leads = closed_contains f (only r) r lt (itself_in r);
+      leads = closed_has f (only r) r lt (itself_in r);
     }))
 
 pub linear_closed : (f : Residues → Residues) → IsLinear f → IsLinear (closed f)

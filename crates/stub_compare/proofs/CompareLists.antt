@@ -6,12 +6,16 @@ use Rattle.std.proofs.lemmas.Bool.Decides.{Decides-eqb}
 use Rattle.std.specs.List.{range_with_len}
 use Rattle.std.proofs.Math.Seq.{drop-cons}
 
-pub next_is : (i : ℕ) → suc i ≡ i + 1
+next_is : (i : ℕ) → suc i ≡ i + 1
 next_is i = omega arith
 
--- the items from one on
+-- the items from one on, whatever stands behind the last
+pub first_or : {A : Type 0} (xs : List A) (i : ℕ) (x d : A) → i < length xs → x ≡ get_or xs i d → drop i xs ≡ x ∷ drop (i + 1) xs
+first_or {A} xs i x d less is =
+    drop-cons xs i d less ∙ ap (λ (y : A). y ∷ drop (suc i) xs) (sym is) ∙ ap (λ k. x ∷ drop k xs) (next_is i)
+
 pub first_of : {A : Type 0} (xs : List A) (i : ℕ) (x : A) → i < length xs → x ≡ get_or xs i x → drop i xs ≡ x ∷ drop (i + 1) xs
-first_of {A} xs i x less is = drop-cons xs i x less ∙ ap (λ (y : A). y ∷ drop (suc i) xs) (sym is) ∙ ap (λ k. x ∷ drop k xs) (next_is i)
+first_of xs i x = first_or xs i x x
 
 -- an item, whatever stands behind the last
 pub at_any : {A : Type 0} (xs : List A) (i : ℕ) (x d : A) → i < length xs → x ≡ get_or xs i x → get_or xs i d ≡ x

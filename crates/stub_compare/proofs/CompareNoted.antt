@@ -1,7 +1,6 @@
 -- Calls noted one after the other, by induction on the calls and on the list of nodes.
 use Rattle.std.proofs.Common.{◌≡◌, ℕ, zero, suc, ◌+◌, ◌-◌, ◌<◌, ◌≤◌, ℤ, Bool, true, false, refl, sym, ap, ◌∙◌, arith, List, [], ◌∷◌, ◌++◌, length, map, drop, get_or, set, replicate, subst, Option, Some, None, option_map, nat_lt, nat_eq, if◌then◌else◌}
 use Rattle.std.proofs.Math.ListN.{drop_of_length-le}
-use Rattle.std.proofs.Math.Seq.{drop-cons}
 use Rattle.std.proofs.lemmas.Bool.{ltb-true, lt-ltb}
 use Rattle.std.proofs.lemmas.List.{length-map}
 use Rattle.mint.specs.declared.node.Node.{Node}
@@ -11,7 +10,7 @@ use Rattle.cast_stub.specs.Block.{Block, Cases, Piece, op_seen, code_seen, cases
 use Rattle.stub_flat.specs.Places.{Spot, arm_spot, rest_spot}
 use Rattle.stub_flat.specs.Flat.{Called, Spots, all_noted, calls, calls_of_known, found_in, noted, spots, unknown, way_calls}
 use Rattle.stub_compare.specs.CompareTold.{IsNotedThrough, IsTold, body_calls}
-use Rattle.stub_compare.proofs.CompareLists.{first_of, next_is, one_left}
+use Rattle.stub_compare.proofs.CompareLists.{first_of, first_or, one_left}
 use Rattle.stub_compare.proofs.CompareOps.{absent_told, told_absent}
 use Rattle.stub_compare.proofs.CompareLaying.{there_told, told_there}
 
@@ -231,10 +230,8 @@ pub known_open : (N : List Node) (bodies : List (List SendOp)) (known : Spots) (
     → calls_of_known N (map code_seen (drop i bodies)) (drop i known)
     ≡ body_calls N t (code_seen b) ++ calls_of_known N (map code_seen (drop (i + 1) bodies)) (drop (i + 1) known)
 known_open N bodies known i b t less short at there =
-    let opened : drop i known ≡ t ∷ drop (i + 1) known =
-    drop-cons known i None short ∙ ap (λ (y : Spot). y ∷ drop (suc i) known) (sym there) ∙ ap (λ k. t ∷ drop k known) (next_is i) in
     ap (λ (l : List (List SendOp)). calls_of_known N (map code_seen l) (drop i known)) (first_of bodies i b less at)
-    ∙ ap (λ (l : Spots). calls_of_known N (map code_seen (b ∷ drop (i + 1) bodies)) l) opened
+    ∙ ap (λ (l : Spots). calls_of_known N (map code_seen (b ∷ drop (i + 1) bodies)) l) (first_or known i t None short there)
     ∙ known_calls N (code_seen b) (map code_seen (drop (i + 1) bodies)) t (drop (i + 1) known)
 
 no_known : (N : List Node) (ts : Spots) → calls_of_known N [] ts ≡ []

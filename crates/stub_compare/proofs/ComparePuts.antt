@@ -1,7 +1,6 @@
 -- What is put of the codes of a list, and of a code with its list.
-use Rattle.std.proofs.Common.{◌≡◌, ◌↔◌, ℕ, suc, ◌+◌, ◌<◌, ◌≤◌, Bool, true, false, List, [], ◌∷◌, length, map, drop, get_or, Option, Some, None, IfSome, option_map, is_some, refl, sym, ap, ◌∙◌, subst, append-nil}
+use Rattle.std.proofs.Common.{◌≡◌, ◌↔◌, ℕ, ◌+◌, ◌<◌, ◌≤◌, Bool, true, false, List, [], ◌∷◌, length, map, drop, get_or, Option, Some, None, IfSome, option_map, is_some, refl, sym, ap, ◌∙◌, subst, append-nil}
 use Rattle.std.proofs.Math.ListN.{drop_of_length-le}
-use Rattle.std.proofs.Math.Seq.{drop-cons}
 use Rattle.mint.specs.declared.node.Node.{Node}
 use Rattle.cast_stub.specs.declared.send.SendCode.{SendCode}
 use Rattle.cast_stub.specs.declared.send.SendOp.{SendOp}
@@ -15,7 +14,7 @@ use Rattle.stub_places.specs.Sets.{each_of, set_of}
 use Rattle.stub_compare.specs.CompareText.{flats_text, items_text, list_text}
 use Rattle.stub_compare.specs.CompareTold.{IsBlockPut, IsLed, IsLedWhere, IsPut, IsTold, body_items}
 use Rattle.stub_compare.specs.CompareFlats.{HaveOneFlat}
-use Rattle.stub_compare.proofs.CompareLists.{first_of, next_is}
+use Rattle.stub_compare.proofs.CompareLists.{first_of, first_or}
 use Rattle.stub_compare.proofs.CompareAgree.{items_agree}
 use Rattle.stub_compare.proofs.CompareTables.{agree_each}
 use Rattle.stub_compare.proofs.CompareOps.{absent_told, led_absent, led_then, told_absent}
@@ -77,10 +76,8 @@ list_open : (N : List Node) (bodies : List (List SendOp)) (known : Spots) (i : �
     ≡ on_some (body_items N t (code_seen b))
     (λ j. option_map (λ js. j ∷ js) (list_items N (map code_seen (drop (i + 1) bodies)) (drop (i + 1) known)))
 list_open N bodies known i b t less short at there =
-    let opened : drop i known ≡ t ∷ drop (i + 1) known =
-    drop-cons known i None short ∙ ap (λ (y : Spot). y ∷ drop (suc i) known) (sym there) ∙ ap (λ k. t ∷ drop k known) (next_is i) in
     ap (λ (l : List (List SendOp)). list_items N (map code_seen l) (drop i known)) (first_of bodies i b less at)
-    ∙ ap (λ (l : Spots). list_items N (map code_seen (b ∷ drop (i + 1) bodies)) l) opened
+    ∙ ap (λ (l : Spots). list_items N (map code_seen (b ∷ drop (i + 1) bodies)) l) (first_or known i t None short there)
     ∙ list_step N (code_seen b) (map code_seen (drop (i + 1) bodies)) t (drop (i + 1) known)
 
 list_led : (told : Bool) (c : Option Items) (o : Option (List Items)) (old new : List ℕ)

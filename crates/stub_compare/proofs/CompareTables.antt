@@ -1,12 +1,13 @@
 -- What a table makes of sets is what the function makes whose sets it lists.
 use Rattle.std.proofs.Common.{◌≡◌, ℕ, zero, suc, ◌+◌, ◌-◌, ◌<◌, ◌≤◌, Bool, true, false, ◌&&◌, ◌||◌, not, inl, inr, refl, sym, ap, ◌∙◌, subst, arith, lit≤, lit<, List, [], get_or, if◌then◌else◌}
-use Rattle.std.proofs.lemmas.Bool.{eqb-true}
+use Rattle.std.proofs.lemmas.Bool.{eqb-true, or_cases, or_left, or_right}
 use Rattle.stub_flat.specs.Residues.{Residues, only, none, sum, moved, aligned, within_first, is_within, size_first, closing, closed}
+use Rattle.stub_flat.proofs.Sets.{Within}
 use Rattle.stub_compare.specs.CompareSets.{Agree, IsTableOf, LedBy, applied, row, rows_of}
 use Rattle.stub_places.specs.Sets.{each_of, set_of}
 use Rattle.stub_places.proofs.Eights.{eighth, eight_same}
-use Rattle.stub_compare.proofs.CompareBools.{one_is, left_is, right_is, same_truth, chosen, at_or_below}
-use Rattle.stub_compare.proofs.CompareLinear.{Within, IsLinear, only_within, none_within, linear_agree, linear_moved, agree_then}
+use Rattle.stub_compare.proofs.CompareBools.{same_truth, chosen, at_or_below}
+use Rattle.stub_compare.proofs.CompareLinear.{IsLinear, only_within, none_within, linear_agree, linear_moved, agree_then}
 
 -- ---- sets and tables as lists
 
@@ -47,7 +48,7 @@ applied_forth f l t is zero le S r lt = λ e. l.up (only 8) S (none_eighth S) r 
 applied_forth f l t is (suc k) le S r lt =
     let P : Residues → Type 0 = λ Z. Z r ≡ true → f S r ≡ true in
     chosen P (S k) (sum (applied k t S) (row t k)) (applied k t S)
-    (λ there e. elim (one_is (applied k t S r) (row t k r) e) [
+    (λ there e. elim (or_cases (applied k t S r) (row t k r) e) [
       | inl x ↦ applied_forth f l t is k (omega arith) S r lt x
       | inr y ↦ l.up (only k) S (only_within k S there) r lt (sym (is k (omega arith) r lt) ∙ y)
     ])
@@ -58,7 +59,7 @@ applied_last t zero S r e = e
 applied_last t (suc k) S r e =
     let P : Residues → Type 0 = λ Z. Z r ≡ true in
     chosen P (S k) (sum (applied k t S) (row t k)) (applied k t S)
-    (λ there. left_is (applied k t S r) (row t k r) (applied_last t k S r e)) (λ there. applied_last t k S r e)
+    (λ there. or_left (applied k t S r) (row t k r) (applied_last t k S r e)) (λ there. applied_last t k S r e)
 
 applied_one : (t : List (List Bool)) (k : ℕ) (S : Residues) (r q : ℕ) → q < k → S q ≡ true → row t q r ≡ true → applied k t S r ≡ true
 applied_one t zero S r q lt inside e = absurd (omega arith)
@@ -68,10 +69,10 @@ applied_one t (suc k) S r q lt inside e =
       | inl same ↦ (let Q : ℕ → Type 0 = λ z. S z ≡ true in
           let R : ℕ → Type 0 = λ z. row t z r ≡ true in
           chosen P (S k) (sum (applied k t S) (row t k)) (applied k t S)
-          (λ there. right_is (applied k t S r) (row t k r) (subst R same e))
+          (λ there. or_right (applied k t S r) (row t k r) (subst R same e))
           (λ there. absurd (let d : S k ≡ true = subst Q same inside in cc)))
       | inr below ↦ chosen P (S k) (sum (applied k t S) (row t k)) (applied k t S)
-          (λ there. left_is (applied k t S r) (row t k r) (applied_one t k S r q below inside e))
+          (λ there. or_left (applied k t S r) (row t k r) (applied_one t k S r q below inside e))
           (λ there. applied_one t k S r q below inside e)
     ]
 

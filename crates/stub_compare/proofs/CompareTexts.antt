@@ -2,7 +2,6 @@
 use Rattle.std.proofs.Common.{◌≡◌, ℕ, suc, ◌+◌, ◌-◌, ◌<◌, ◌≤◌, Bool, true, List, [], ◌∷◌, ◌++◌, length, map, drop, get_or, replicate, sym, ap, ◌∙◌, append_assoc, arith}
 use Rattle.std.specs.List.{range_with_len}
 use Rattle.std.proofs.Math.ListN.{drop_of_length-le}
-use Rattle.std.proofs.Math.Seq.{drop-cons}
 use Rattle.cast_stub.specs.Steps.{is_width}
 use Rattle.wire_def.specs.declared.head.Order.{Order}
 use Rattle.stub_flat.specs.Items.{Cell, fixed, part, num, ordered}
@@ -10,7 +9,7 @@ use Rattle.stub_compare.specs.CompareCells.{is_big, turned_at}
 use Rattle.stub_compare.specs.CompareText.{cell_text, cells_text, path_text}
 use Rattle.stub_compare.specs.CompareTold.{IsPut}
 use Rattle.stub_compare.proofs.CompareLaid.{map_pair, word_cells}
-use Rattle.stub_compare.proofs.CompareLists.{next_is, range_all, range_next, range_none}
+use Rattle.stub_compare.proofs.CompareLists.{first_or, range_all, range_next, range_none}
 
 -- a number more
 pub put_one : (old new : List ℕ) (n : ℕ) → new ≡ old ++ n ∷ [] → IsPut old (λ rest. n ∷ rest) new
@@ -29,9 +28,7 @@ IsLeft path left old new = (rest : List ℕ) → old ++ path_text path rest ≡ 
 pub field_more : (path xs : List ℕ) (i n : ℕ) (old mid new : List ℕ) → i < length xs → n ≡ get_or xs i 0 → IsLeft path (drop i xs) old mid
     → IsPut mid (λ rest. 1 ∷ (n ∷ rest)) new → IsLeft path (drop (i + 1) xs) old new
 field_more path xs i n old mid new less at left put rest =
-    let opened : drop i xs ≡ n ∷ drop (i + 1) xs =
-    drop-cons xs i 0 less ∙ ap (λ k. k ∷ drop (suc i) xs) (sym at) ∙ ap (λ k. n ∷ drop k xs) (next_is i) in
-    left rest ∙ ap (λ (l : List ℕ). mid ++ path_text l rest) opened ∙ put (path_text (drop (i + 1) xs) rest)
+    left rest ∙ ap (λ (l : List ℕ). mid ++ path_text l rest) (first_or xs i n 0 less at) ∙ put (path_text (drop (i + 1) xs) rest)
 
 pub path_done : (path xs : List ℕ) (i : ℕ) (old mid new : List ℕ) → length xs ≤ i → xs ≡ path → IsLeft xs (drop i xs) old mid
     → IsPut mid (λ rest. 0 ∷ rest) new → IsPut old (path_text path) new

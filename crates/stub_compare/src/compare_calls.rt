@@ -7,7 +7,7 @@ ghost use Rattle.stub_flat.specs.Flat.{all_noted, calls, calls_of_known, noted, 
 ghost use Rattle.stub_compare.specs.CompareTold.{IsNotedThrough, IsTold, body_calls};
 
 use crate::compare_steps::steps_in;
-use cast_stub::{SendCases, SendCode, SendOp, SendOps, SendSubs};
+use cast_stub::{SendCases, SendCode, SendLast, SendOp, SendOps, SendSubs};
 use kit_base::NoMemory;
 use mint::table::{Mint, NodeId};
 use std::alloc::Global;
@@ -86,7 +86,7 @@ fn note_ways(
     mint: &Mint,
     place: Spot,
     cases: &SendCases,
-    last: &Option<SendOps>,
+    last: &SendLast,
     nodes: &mut Vec<Spot>,
 ) -> bool
     ensures noted { IsTold result (all_noted (way_calls mint.now (node_of mint.now place)

@@ -15,7 +15,7 @@ use crate::compare_leaves::turn_of;
 use crate::compare_octets::{put_itself, put_zeros};
 use crate::compare_tables::{closed, closed_by};
 use crate::compare_text::{Numbers, order_number, put_integer, put_number, put_over};
-use cast_stub::{Path, Puts, SendCases, SendOp, SendOps};
+use cast_stub::{Path, Puts, SendCases, SendLast, SendOp, SendOps};
 use kit_base::NoMemory;
 use mint::table::Mint;
 use std::alloc::Global;
@@ -116,7 +116,7 @@ fn put_ways(
     mint: &Mint,
     place: Spot,
     cases: &SendCases,
-    last: &Option<SendOps>,
+    last: &SendLast,
     set: &Set,
     out: &mut Numbers,
 ) -> Result<Option<Set>, NoMemory>

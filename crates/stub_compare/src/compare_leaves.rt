@@ -11,7 +11,7 @@ ghost use Rattle.stub_compare.specs.CompareTold.{IsLedThrough};
 use crate::compare_tables::{
     Table, align_where, close_by, close_each, every_each, move_each, none_each, start, sum_each,
 };
-use cast_stub::{Path, SendCases, SendOp, SendOps};
+use cast_stub::{Path, SendCases, SendLast, SendOp, SendOps};
 use mint::table::Mint;
 use stub_places::{
     Spot, arm_spot_at, element_at, present_at, rest_spot_at, row_kind_at, spot_at, width_of,
@@ -73,13 +73,7 @@ fn lead_row(mint: &Mint, spot: Spot, path: &Path, table: &Table) -> Table
 
 /// Each set of a table, led through the bodies of a switch over a place.
 #[cycle(lead)]
-fn lead_ways(
-    mint: &Mint,
-    place: Spot,
-    cases: &SendCases,
-    last: &Option<SendOps>,
-    table: &Table,
-) -> Table
+fn lead_ways(mint: &Mint, place: Spot, cases: &SendCases, last: &SendLast, table: &Table) -> Table
     ensures { LedBy (ways_leave mint.now (node_of mint.now place) (cases_seen cases.now last.now)
         (cases_seen cases.now last.now)) table.now result }
 {

@@ -76,11 +76,12 @@ module _ (K : Trees) where
 
   -- a switch that is put after a code
   pub switch_put : (r : Result (Unit {0}) NoMemory) (arms items : List (ℤ × ℕ)) (i : ℕ) (path : List ℕ) (cases : List (ℤ × List Op))
-      (last : Option (List Op)) (d : Bodies) (old new : Tree) → items ≡ arms → length items ≤ i → path ≡ [] → AreCalls cases (take i items)
-      → bodies [] last ≡ d → OnOk r (new ≡ append old (seen (Switch path cases last) stop))
+      (last : Option (List Op)) (o : Op) (d : Bodies) (old new : Tree) → items ≡ arms → length items ≤ i → path ≡ []
+      → AreCalls cases (take i items) → bodies [] last ≡ d → o ≡ Switch path cases last → OnOk r (new ≡ append old (seen o stop))
       → OnOk r (new ≡ append old (switch [] (cases_of case here d arms) stop))
-  switch_put (Err e) arms items i path cases last d old new same far here_is calls last_is is = tt
-  switch_put (Ok u) arms items i path cases last d old new same far here_is calls last_is is =
+  switch_put (Err e) arms items i path cases last o d old new same far here_is calls last_is made is = tt
+  switch_put (Ok u) arms items i path cases last o d old new same far here_is calls last_is made is =
       let whole : take i items ≡ arms = take_all i items far ∙ same in
-      is ∙ ap (append old) (switch_made K [] path cases last (cases_of case here d arms) here_is
+      is ∙ ap (λ (x : Op). append old (seen x stop)) made
+      ∙ ap (append old) (switch_made K [] path cases last (cases_of case here d arms) here_is
       (cases_made cases arms last d (calls ∙ ap (map arm_shown) whole) last_is))

@@ -165,7 +165,8 @@ fn add_switch(
         cases.push(call_for(alloc, n, *id)?)?;
     }
     let default = default_of(alloc, other)?;
-    add(out, SendOp::Switch(Path::new(alloc), cases, default))
+    let switch = SendOp::switch(alloc, Path::new(alloc), cases, default)?;
+    add(out, switch)
 }
 
 /// The call of the last arm, if there is one.

@@ -7,6 +7,7 @@ ghost use Rattle.mint.specs.Values.{arm_in, row_in};
 ghost use Rattle.stub_machine.specs.Picking.{PickedAt};
 
 use cast_stub::{Path, SendCases};
+use kit_base::Boxed;
 use mint::row::Row;
 use mint::value::{Value, Values};
 
@@ -210,7 +211,7 @@ fn arm(value: &Value) -> Option<(&i128, &Value)>
 }
 
 /// The place of the body of a number.
-pub fn position(cases: &SendCases, n: &i128) -> Option<usize>
+pub fn position(cases: &Boxed<SendCases>, n: &i128) -> Option<usize>
     ensures { PickedAt cases.now n.now result }
 {
     cases.find(n)

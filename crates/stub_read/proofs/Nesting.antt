@@ -106,6 +106,14 @@ pub deeper_has : {A : Type 0} (P : A → Type 0) (l : ℕ) (r : Reader A) → ((
 deeper_has P zero r h t = tt
 deeper_has P (suc l) r h t = h (omega arith) t
 
+-- what holds of the body of every other number, and where there is none
+pub last_has : (P : List SendOp → Type 0) (Q : Option (List SendOp) → Type 0) (body : Reader (List SendOp)) → Always P body
+    → ((a : List SendOp) → P a → Q (Some a)) → Q None → Always Q (last_at body)
+last_has P Q body h there none t = go (begins default_line t) where
+  go : (b : Bool) → IfRead Q (cond b (before (mapped Some body) end_line (drop 8 t)) (mapped (λ u. None) (word_at end_line) t))
+  go true = before_has Q (mapped Some body) end_line (mapped_has P Q Some body h there) (drop 8 t)
+  go false = mapped_has Any Q (λ u. None) (word_at end_line) (any_read (word_at end_line)) (λ a g. none) t
+
 module _ (l : ℕ) (h : Always (BodyNests l) (ops_at l)) where
   over_nests : Always (λ x. BodyNests l x.1) (over_at (ops_at l))
   over_nests =
@@ -123,13 +131,7 @@ module _ (l : ℕ) (h : Always (BodyNests l) (ops_at l)) where
   LastNests last = CasesNestWithin (l - 1) (cases_seen [] last)
 
   last_nests : Always LastNests (last_at (ops_at l))
-  last_nests t = go (begins default_line t) where
-    go : (b : Bool) → IfRead LastNests
-        (cond b (before (mapped Some (ops_at l)) end_line (drop 8 t)) (mapped (λ u. None) (word_at end_line) t))
-    go true =
-        before_has LastNests (mapped Some (ops_at l)) end_line
-        (mapped_has (BodyNests l) LastNests Some (ops_at l) h (λ a g. g.1)) (drop 8 t)
-    go false = mapped_has Any LastNests (λ u. None) (word_at end_line) (any_read (word_at end_line)) (λ a g. tt) t
+  last_nests = last_has (BodyNests l) LastNests (ops_at l) h (λ a g. g.1) tt
 
   cases_nest : Always (CasesNest (l - 1)) (cases_at (ops_at l))
   cases_nest =

@@ -16,9 +16,9 @@ use Rattle.stub_read.specs.declared.leads.PutLead.TheVariants as puts
 use Rattle.stub_read.specs.Reading.{Read, Reader, then_on, if_led, begins, word_at, both, mapped, before, repeat, many}
 use Rattle.stub_read.specs.Words.{space, feed, is_digit, digits_on, most_word, number_at, most_signed, minus, integer_at, begins_field, point_at, fields_at, bare_path_at, path_at, order_at, is_hex, hex_value, hex_digit_at, octets_at}
 use Rattle.stub_read.specs.Leads.{lead_at, put_lead_at}
-use Rattle.stub_read.specs.Operations.{layout_at, scalar_at, count_at, short_at, field_at, num_of, tag_of, flag_of, count_of, short_of, head_of, stored_at, put_at, end_line, bare_puts_at, puts_at, ensure_row_of, chunk_of, row_wide_of, each_of, there_of, switch_of, call_of, patch_of, chunk_at, over_at, cases_at, default_line, last_at, switch_at, op_at, ops_at}
+use Rattle.stub_read.specs.Operations.{layout_at, scalar_at, count_at, short_at, field_at, num_of, tag_of, flag_of, count_of, short_of, head_of, stored_at, put_at, end_line, bare_puts_at, puts_at, ensure_row_of, chunk_of, row_wide_of, each_of, there_of, switch_of, call_of, patch_of, chunk_at, over_at, cases_at, last_at, switch_at, op_at, ops_at}
 use Rattle.stub_read.specs.Stubs.{IsWord, AreWords, IsSigned, AreOctets, PutIsSmall, PutsAreSmall, IsSmall, CasesAreSmall}
-use Rattle.stub_read.proofs.Nesting.{IfRead, Always, Any, read_then, mapped_has, any_read, both_have, before_has, many_has, weaker, deeper_has}
+use Rattle.stub_read.proofs.Nesting.{IfRead, Always, Any, read_then, mapped_has, any_read, both_have, before_has, many_has, weaker, deeper_has, last_has}
 
 -- ---- numbers
 
@@ -222,13 +222,7 @@ module _ (l : ℕ) (h : Always OpsAreSmall (ops_at l)) where
       (λ a g. keeps_small (chunk_of a) (block.chunk a.0 a.1) (seen-Chunk a.0 a.1) (λ b k. (g.0, g.1, k))))
 
   last_small : Always LastIsSmall (last_at (ops_at l))
-  last_small t = go (begins default_line t) where
-    go : (b : Bool) → IfRead LastIsSmall
-        (cond b (before (mapped Some (ops_at l)) end_line (drop 8 t)) (mapped (λ u. None) (word_at end_line) t))
-    go true =
-        before_has LastIsSmall (mapped Some (ops_at l)) end_line
-        (mapped_has OpsAreSmall LastIsSmall Some (ops_at l) h (λ a g. g)) (drop 8 t)
-    go false = mapped_has Any LastIsSmall (λ u. None) (word_at end_line) (any_read (word_at end_line)) (λ a g. tt) t
+  last_small = last_has OpsAreSmall LastIsSmall (ops_at l) h (λ a g. g) tt
 
   cases_small : Always CasesAreAllSmall (cases_at (ops_at l))
   cases_small =

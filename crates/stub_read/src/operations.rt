@@ -138,7 +138,7 @@ fn switch(alloc: Global, levels: u32, text: &[u8]) -> Result<(SendOp, &[u8]), St
     let (path, rest) = path(alloc, text, b"\n")?;
     let (bodies, rest) = cases(alloc, levels, rest)?;
     let (other, rest) = last(alloc, levels, rest)?;
-    Ok((SendOp::Switch(path, bodies, other), rest))
+    Ok((SendOp::switch(alloc, path, bodies, other)?, rest))
 }
 
 /// An operation, after its first word, with so many levels for its bodies.

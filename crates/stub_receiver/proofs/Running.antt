@@ -230,7 +230,8 @@ settle_holds x d t is h = checked (settle d) (subst (λ (z : Run Draft). Holds (
   checked (Some v) k = tt
   checked None k = k
 
-module _ (f : Going Val) (n i : ℕ) (s0 s : Place) (front : List Val) (lt : i < n)
+-- so many turns, one after the other
+module _ {A : Type 0} (f : Going A) (n i : ℕ) (s0 s : Place) (front : List A) (lt : i < n)
     (left : runs f n s0 ≡ map_run (λ vs. front ++ vs) (runs f (n - i) s)) where
   one_more : n - i ≡ suc (n - (i + 1))
   one_more = omega (arith, lt)
@@ -238,32 +239,40 @@ module _ (f : Going Val) (n i : ℕ) (s0 s : Place) (front : List Val) (lt : i <
   opened : runs f n s0 ≡ map_run (λ vs. front ++ vs) (then_run (f s) (λ x t. map_run (λ xs. x ∷ xs) (runs f (n - (i + 1)) t)))
   opened = left ∙ ap (λ (m : ℕ). map_run (λ vs. front ++ vs) (runs f m s)) one_more
 
-  holds_mapped : (z : Run Val) (g : Val → Place → Run (List Val)) → Holds (map_run (λ vs. front ++ vs) (then_run z g)) → Holds z
+  holds_mapped : (z : Run A) (g : A → Place → Run (List A)) → Holds (map_run (λ vs. front ++ vs) (then_run z g)) → Holds z
   holds_mapped (gives v t) g h = tt
   holds_mapped refuses g h = tt
   holds_mapped strays g h = h
 
-  pub item_holds : Holds (runs f n s0) → Holds (f s)
-  item_holds h = holds_mapped (f s) (λ x t. map_run (λ xs. x ∷ xs) (runs f (n - (i + 1)) t)) (subst Holds opened h)
+  pub turn_holds : Holds (runs f n s0) → Holds (f s)
+  turn_holds h = holds_mapped (f s) (λ x t. map_run (λ xs. x ∷ xs) (runs f (n - (i + 1)) t)) (subst Holds opened h)
 
-  joined_more : (x : Val) (z : Run (List Val))
+  joined_more : (x : A) (z : Run (List A))
       → map_run (λ vs. front ++ vs) (map_run (λ xs. x ∷ xs) z) ≡ map_run (λ vs. (front ++ x ∷ []) ++ vs) z
-  joined_more x (gives vs t) = ap (λ (l : List Val). gives l t) (sym (append_assoc front (x ∷ []) vs))
+  joined_more x (gives vs t) = ap (λ (l : List A). gives l t) (sym (append_assoc front (x ∷ []) vs))
   joined_more x refuses = refl
   joined_more x strays = refl
 
+  -- a turn gives one more
+  turned : (x : A) (t : Place) (new : List A) → f s ≡ gives x t → front ++ x ∷ [] ≡ new
+      → runs f n s0 ≡ map_run (λ vs. new ++ vs) (runs f (n - (i + 1)) t)
+  turned x t new ran next =
+      opened ∙ ap (λ (z : Run A). map_run (λ vs. front ++ vs) (then_run z (λ y u. map_run (λ xs. y ∷ xs) (runs f (n - (i + 1)) u)))) ran
+      ∙ joined_more x (runs f (n - (i + 1)) t) ∙ ap (λ (l : List A). map_run (λ vs. l ++ vs) (runs f (n - (i + 1)) t)) next
+
+module _ (f : Going Val) (n i : ℕ) (s0 s : Place) (front : List Val) (lt : i < n)
+    (left : runs f n s0 ≡ map_run (λ vs. front ++ vs) (runs f (n - i) s)) where
   pub item_turn : (old new : List Value) (v : Value) (t : Place) → front ≡ map seen old → f s ≡ gives (seen v) t → new ≡ old ++ v ∷ []
       → runs f n s0 ≡ map_run (λ vs. map seen new ++ vs) (runs f (n - (i + 1)) t)
   item_turn old new v t is ran more =
-      let next : front ++ seen v ∷ [] ≡ map seen new =
-      ap (λ (l : List Val). l ++ seen v ∷ []) is ∙ sym (ap (map seen) more ∙ map-append seen old (v ∷ [])) in
-      opened ∙ ap (λ (z : Run Val). map_run (λ vs. front ++ vs) (then_run z (λ x t. map_run (λ xs. x ∷ xs) (runs f (n - (i + 1)) t)))) ran
-      ∙ joined_more (seen v) (runs f (n - (i + 1)) t) ∙ ap (λ (l : List Val). map_run (λ vs. l ++ vs) (runs f (n - (i + 1)) t)) next
+      turned f n i s0 s front lt left (seen v) t (map seen new) ran
+      (ap (λ (l : List Val). l ++ seen v ∷ []) is ∙ sym (ap (map seen) more ∙ map-append seen old (v ∷ [])))
 
   pub item_halts : {X Y : Type 0} (view : X → Val) (view' : Y → List Val) (t u : Place) (halt : Halt) → Gave view (Err halt) t (f s)
       → Gave view' (Err halt) u (runs f n s0)
   item_halts view view' t u Refused ran =
-      opened ∙ ap (λ (z : Run Val). map_run (λ vs. front ++ vs) (then_run z (λ x t. map_run (λ xs. x ∷ xs) (runs f (n - (i + 1)) t)))) ran
+      opened f n i s0 s front lt left
+      ∙ ap (λ (z : Run Val). map_run (λ vs. front ++ vs) (then_run z (λ x t. map_run (λ xs. x ∷ xs) (runs f (n - (i + 1)) t)))) ran
   item_halts view view' t u NoMemory ran = tt
 
 -- ---- the value after a union's number
@@ -372,33 +381,11 @@ digit_is a subs k b s t d d0 v n ran from e is =
 -- so many numbers
 module _ (f : Going ℤ) (n i : ℕ) (s0 s : Place) (front : List ℤ) (lt : i < n)
     (left : runs f n s0 ≡ map_run (λ vs. front ++ vs) (runs f (n - i) s)) where
-  one_less : n - i ≡ suc (n - (i + 1))
-  one_less = omega (arith, lt)
-
-  unfolded_once : runs f n s0 ≡ map_run (λ vs. front ++ vs) (then_run (f s) (λ x t. map_run (λ xs. x ∷ xs) (runs f (n - (i + 1)) t)))
-  unfolded_once = left ∙ ap (λ (m : ℕ). map_run (λ vs. front ++ vs) (runs f m s)) one_less
-
-  held_first : (z : Run ℤ) (g : ℤ → Place → Run (List ℤ)) → Holds (map_run (λ vs. front ++ vs) (then_run z g)) → Holds z
-  held_first (gives v t) g h = tt
-  held_first refuses g h = tt
-  held_first strays g h = h
-
-  pub number_holds : Holds (runs f n s0) → Holds (f s)
-  number_holds h = held_first (f s) (λ x t. map_run (λ xs. x ∷ xs) (runs f (n - (i + 1)) t)) (subst Holds unfolded_once h)
-
-  after_first : (x : ℤ) (z : Run (List ℤ))
-      → map_run (λ vs. front ++ vs) (map_run (λ xs. x ∷ xs) z) ≡ map_run (λ vs. (front ++ x ∷ []) ++ vs) z
-  after_first x (gives vs t) = ap (λ (l : List ℤ). gives l t) (sym (append_assoc front (x ∷ []) vs))
-  after_first x refuses = refl
-  after_first x strays = refl
-
   pub number_turn : (r : Numbers) (k k' : Kind) (x y : ℤ) (t : Place) → f s ≡ gives x t → k ≡ k' → y ≡ x
       → r ≡ record { kind = k; numbers = front ++ y ∷ [] }
       → (runs f n s0 ≡ map_run (λ vs. r.numbers ++ vs) (runs f (n - (i + 1)) t)) × (r.kind ≡ k')
   number_turn r k k' x y t ran same one is = (
-    unfolded_once
-        ∙ ap (λ (z : Run ℤ). map_run (λ vs. front ++ vs) (then_run z (λ x t. map_run (λ xs. x ∷ xs) (runs f (n - (i + 1)) t)))) ran
-        ∙ after_first x (runs f (n - (i + 1)) t) ∙ ap (λ (l : List ℤ). map_run (λ vs. l ++ vs) (runs f (n - (i + 1)) t))
+    turned f n i s0 s front lt left x t r.numbers ran
         (sym (ap (λ (q : Numbers). q.numbers) is ∙ ap (λ (z : ℤ). front ++ z ∷ []) one)),
     ap (λ (q : Numbers). q.kind) is ∙ same,
   )

@@ -16,12 +16,12 @@ use crate::flat::{need_and_take, run_flat};
 use crate::looping::{Elements, elements_of};
 use crate::machine::Machine;
 use crate::numbers::kind_at;
-use crate::picking::body_of;
+use crate::picking::{Bodies, body_of};
 use crate::rows::need_row;
 use crate::settling::settle;
 use crate::skips::{skip_any, skip_zero};
 use crate::takes::run_take;
-use cast_stub::{Path, RecvCases, RecvOp, RecvOps};
+use cast_stub::{Path, RecvLast, RecvOp, RecvOps};
 use mint::value::{Row, Value, Values};
 use raw_buf::RecvView;
 
@@ -222,8 +222,8 @@ fn run_some(
 fn run_switch(
     machine: &Machine<'_>,
     calls: u32,
-    cases: &RecvCases,
-    other: &Option<RecvOps>,
+    cases: &Bodies,
+    other: &RecvLast,
     part: Filling,
     view: &mut RecvView<'_>,
 ) -> Result<Filling, Halt>

@@ -73,19 +73,19 @@ one_second : (y a b : List (Option ℕ)) (r : ℕ) → lesser (room_at y r) (les
     → lesser (room_at y r) (room_at b r) ≡ lesser (room_at y r) (lesser (room_at a r) (room_at b r))
 one_second y a b r e = lesser_low_other (room_at y r) (room_at a r) (room_at b r) e ∙ sym e
 
+-- rooms that are those of a list, at each residue by what the list has there
+low_by : (f g : Rooms) (y : List (Option ℕ)) → each_of g ≡ y → ((r : ℕ) → g r ≡ room_at y r → f r ≡ g r) → each_of f ≡ y
+low_by f g y h one =
+    let k = λ (r : ℕ). ap (λ (l : List (Option ℕ)). room_at l r) h in
+    eight_same f g (one 0 (k 0)) (one 1 (k 1)) (one 2 (k 2)) (one 3 (k 3)) (one 4 (k 4)) (one 5 (k 5)) (one 6 (k 6)) (one 7 (k 7)) ∙ h
+
 pub low_first : (y a b : List (Option ℕ)) → IsLow y (least_of a b) → IsLow y a
 low_first y a b h =
-    let k = λ (r : ℕ). ap (λ (l : List (Option ℕ)). room_at l r) h in
-    eight_same (least (room_at y) (room_at a)) (least (room_at y) (least (room_at a) (room_at b)))
-    (one_first y a b 0 (k 0)) (one_first y a b 1 (k 1)) (one_first y a b 2 (k 2)) (one_first y a b 3 (k 3))
-    (one_first y a b 4 (k 4)) (one_first y a b 5 (k 5)) (one_first y a b 6 (k 6)) (one_first y a b 7 (k 7)) ∙ h
+    low_by (least (room_at y) (room_at a)) (least (room_at y) (least (room_at a) (room_at b))) y h (one_first y a b)
 
 pub low_second : (y a b : List (Option ℕ)) → IsLow y (least_of a b) → IsLow y b
 low_second y a b h =
-    let k = λ (r : ℕ). ap (λ (l : List (Option ℕ)). room_at l r) h in
-    eight_same (least (room_at y) (room_at b)) (least (room_at y) (least (room_at a) (room_at b)))
-    (one_second y a b 0 (k 0)) (one_second y a b 1 (k 1)) (one_second y a b 2 (k 2)) (one_second y a b 3 (k 3))
-    (one_second y a b 4 (k 4)) (one_second y a b 5 (k 5)) (one_second y a b 6 (k 6)) (one_second y a b 7 (k 7)) ∙ h
+    low_by (least (room_at y) (room_at b)) (least (room_at y) (least (room_at a) (room_at b))) y h (one_second y a b)
 
 -- ---- sets
 

@@ -13,7 +13,7 @@ ghost use Rattle.stub_rooms.specs.CoversLap.{nodes, Leads, leaves_of, reach_of};
 
 use crate::covers_lap::{Lap, Walk, place_at};
 use crate::rooms::{Rooms, room};
-use cast_stub::{Path, SendCases, SendOp, SendOps};
+use cast_stub::{Path, SendCases, SendLast, SendOp, SendOps};
 use kit_base::NoMemory;
 use mint::table::NodeId;
 use stub_places::sets::{Set, aligned, every, is_within, moved, none, size, sum};
@@ -110,7 +110,7 @@ fn leave_row(
 #[cycle(leaves)]
 fn leave_ways(
     cases: &SendCases,
-    last: &Option<SendOps>,
+    last: &SendLast,
     place: Option<NodeId>,
     marks: &Set,
     walk: &Walk<'_>,

@@ -6,7 +6,7 @@ ghost use Rattle.stub_cover.specs.Covers.{is_plain, are_plain};
 ghost use Rattle.stub_rooms.specs.CoversLap.{is_plain_lap};
 
 use crate::covers_lap::{Lap, Walk};
-use cast_stub::{SendCases, SendOp, SendOps};
+use cast_stub::{SendCases, SendLast, SendOp, SendOps};
 use kit_base::NoMemory;
 use stub_places::spend_op;
 
@@ -53,7 +53,7 @@ fn is_plain_op(op: &SendOp, walk: &Walk<'_>, left: &mut u64) -> Result<bool, NoM
 #[cycle(plain)]
 fn are_plain(
     cases: &SendCases,
-    last: &Option<SendOps>,
+    last: &SendLast,
     walk: &Walk<'_>,
     left: &mut u64,
 ) -> Result<bool, NoMemory>

@@ -21,7 +21,7 @@ use crate::rooms::{
     Rooms, bare, joined_last, least, lowest, no_rooms, only_room, raised, spread, took,
 };
 use crate::turns::{turn_on, turning_from};
-use cast_stub::{Path, SendCases, SendOp, SendOps};
+use cast_stub::{Path, SendCases, SendLast, SendOp, SendOps};
 use kit_base::NoMemory;
 use mint::table::NodeId;
 use stub_places::sets::{Set, contains, every};
@@ -120,7 +120,7 @@ fn run_op(
 #[cycle(run)]
 fn run_ways(
     cases: &SendCases,
-    last: &Option<SendOps>,
+    last: &SendLast,
     place: Option<NodeId>,
     rooms: &Rooms,
     walk: &Walk<'_>,

@@ -2,7 +2,9 @@ use Rattle.std.proofs.Common.{◌≡◌, ◌∙◌, length, sym, ap, arith}
 use Rattle.cast_stub.specs.declared.recv.RecvOp.TheVariants as op
 use Rattle.cast_stub.specs.RecvAppend.{append}
 use Rattle.cast_stub.specs.RecvBlock.{code_seen}
-use Rattle.chunker.proofs.RecvMaking.{pushed, taken_some}
+use Rattle.cast_stub.proofs.Directions.{receives}
+use Rattle.chunker.proofs.Bodies.{pushed}
+use Rattle.chunker.proofs.RecvMaking.{taken_some}
 use Rattle.chunker.proofs.recv_run.put_open.Goals.{else-size-eq0-via-then-size-eq0+else-len-eq0, else-size-eq0-via-else-size-eq0}
 use Rattle.chunker.proofs.recv_run.put_open.Goals as goal
 
@@ -13,5 +15,5 @@ returns c r =
       | else-size-eq0-via-then-size-eq0+else-len-eq0 w ↦ omega (arith, f, w.len.ensures, w.if-len-eq0.false)
       | else-size-eq0-via-else-size-eq0 w ↦ omega (arith, e, w.if-size-eq0.false)
     ] in
-    pushed c.args.out.now c.push.new.self (op.Take c.args.size c.args.gets) r c.in_ok-push.ensures.ok
+    pushed receives c.args.out.now c.push.new.self (op.Take c.args.size c.args.gets) r c.in_ok-push.ensures.ok
     ∙ ap (append (code_seen c.args.out.now)) (sym (taken_some c.args.size c.args.gets r some))

@@ -1,11 +1,12 @@
 use Rattle.std.proofs.Common.{refl, ◌∙◌}
 use Rattle.cast_stub.specs.Block.{op_seen}
-use Rattle.chunker.proofs.Making.{pushed}
+use Rattle.cast_stub.proofs.Directions.{sends}
+use Rattle.chunker.proofs.Bodies.{pushed}
 use Rattle.chunker.proofs.run.put_other.Goals as goal
 
 pub returns : goal.returns
 returns c = record {
-  made = λ r. pushed c.close.new.run.out c.push.new.self c.args.op r c.in_ok-push.ensures.ok
+  made = λ r. pushed sends c.close.new.run.out c.push.new.self c.args.op r c.in_ok-push.ensures.ok
       ∙ c.in_ok-close.ensures.made (op_seen c.args.op r);
   phase = refl;
   shut = record { size = c.in_ok-close.ensures.shut.size; puts = c.in_ok-close.ensures.shut.puts };

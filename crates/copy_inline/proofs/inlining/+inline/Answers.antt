@@ -1,8 +1,9 @@
-use Rattle.std.proofs.Common.{◌≡◌, ◌<◌, ℤ, List, ◌++◌, length, get_or, refl, subst, arith}
+use Rattle.std.proofs.Common.{◌≡◌, ◌<◌, ℤ, List, ◌++◌, length, get_or, refl, sym, ap, ◌∙◌, subst, arith}
 use Rattle.std.specs.Prelude.{OnOk}
 use Rattle.cast_stub.specs.declared.send.SendOp.{SendOp}
+use Rattle.cast_stub.specs.declared.send.SendOp.TheVariants as variants
 use Rattle.cast_stub.specs.Append.{append}
-use Rattle.cast_stub.specs.Block.{Block, code_seen, cases_seen}
+use Rattle.cast_stub.specs.Block.{Block, stop, op_seen, code_seen, cases_seen}
 use Rattle.cast_stub.proofs.Directions.{sends}
 use Rattle.cast_stub.proofs.Trees.{one_more, bodies_turn, bodies_same, pair_is, switch_is, each_has, there_has, switch_has, call_has, without_last, last_alone, one_body}
 use Rattle.copy_inline.specs.Spliced.{inlined, spliced, cases_spliced}
@@ -27,14 +28,16 @@ bodies_of-loop-case-preserved t c =
     (pair_is c.case_of.result c.case-item.result.0 c.in_ok-body.body c.case_of.ensures.number c.case_of.ensures.body) c.in_ok-body.ensures
     c.in_ok-push.ensures.ok
 
-pub put_op-returns-in_ok-path_after-in-Switch : goal.put_op-returns-in_ok-path_after-in-Switch
-put_op-returns-in_ok-path_after-in-Switch t c =
+pub put_op-returns-in_ok-switch-in-Switch : goal.put_op-returns-in_ok-switch-in-Switch
+put_op-returns-in_ok-switch-in-Switch t c =
     let inl = inlined (sub_at c.args.subs.now) c.args.calls in
     subst (λ (b : Block). OnOk c.add-in-Switch.result (code_seen c.add-in-Switch.new.out ≡ append (code_seen c.args.out.now) b))
-    (switch_is sends (placed inl c.args.prefix.now) c.args.op.now c.in-Switch.path _ (c.args.prefix.now ++ c.in-Switch.path)
-    c.in-Switch.cases _
-    c.in-Switch.other _ (cases_spliced inl (cases_seen c.in-Switch.cases c.in-Switch.other)) c.in-Switch.is refl
-    c.in_ok-path_after-in-Switch.ensures
+    (ap (λ (o : SendOp). op_seen o stop) c.in_ok-switch-in-Switch.ensures
+    ∙ switch_is sends (placed inl c.args.prefix.now) c.args.op.now c.in-Switch.path _ (c.args.prefix.now ++ c.in-Switch.path)
+    c.deref.result.now _
+    c.in-Switch.other _ (cases_spliced inl (cases_seen c.deref.result.now c.in-Switch.other)) (c.in-Switch.is
+    ∙ ap (λ (l : List (ℤ × List SendOp)). variants.Switch c.in-Switch.path l c.in-Switch.other) (sym c.deref.ensures)) refl
+    c.in_ok-part-in-Switch.ensures
     (bodies_same sends (spliced inl) (cases_spliced inl) (goes_into inl) _ _ _ _ c.in_ok-bodies-in-Switch.ensures
     c.in_ok-last-in-Switch.ensures))
     c.add-in-Switch.ensures
@@ -96,9 +99,10 @@ put_op-bodies_of-requires t c = (
   (
     omega (arith, c.requires.calls),
     without_last sends (IsShallow (sub_at c.args.subs.now) c.args.nested) (CasesAre (IsShallow (sub_at c.args.subs.now) c.args.nested))
-        (of_each (IsShallow (sub_at c.args.subs.now) c.args.nested)) c.in-Switch.cases c.in-Switch.other
+        (of_each (IsShallow (sub_at c.args.subs.now) c.args.nested)) c.deref.result.now c.in-Switch.other
         (switch_has sends (Within (sub_at c.args.subs.now) (IsShallow (sub_at c.args.subs.now) c.args.nested)) c.args.op.now
-        c.requires.levels c.in-Switch.path c.in-Switch.cases c.in-Switch.other c.in-Switch.is).0,
+        c.requires.levels c.in-Switch.path c.deref.result.now c.in-Switch.other (c.in-Switch.is
+        ∙ ap (λ (l : List (ℤ × List SendOp)). variants.Switch c.in-Switch.path l c.in-Switch.other) (sym c.deref.ensures))).0,
   ),
 )
 
@@ -108,9 +112,10 @@ put_op-last_of-requires t c = (
   (
     omega (arith, c.requires.calls),
     last_alone sends (IsShallow (sub_at c.args.subs.now) c.args.nested) (CasesAre (IsShallow (sub_at c.args.subs.now) c.args.nested))
-        (of_each (IsShallow (sub_at c.args.subs.now) c.args.nested)) c.in-Switch.cases c.in-Switch.other
+        (of_each (IsShallow (sub_at c.args.subs.now) c.args.nested)) c.deref.result.now c.in-Switch.other
         (switch_has sends (Within (sub_at c.args.subs.now) (IsShallow (sub_at c.args.subs.now) c.args.nested)) c.args.op.now
-        c.requires.levels c.in-Switch.path c.in-Switch.cases c.in-Switch.other c.in-Switch.is).0,
+        c.requires.levels c.in-Switch.path c.deref.result.now c.in-Switch.other (c.in-Switch.is
+        ∙ ap (λ (l : List (ℤ × List SendOp)). variants.Switch c.in-Switch.path l c.in-Switch.other) (sym c.deref.ensures))).0,
   ),
 )
 

@@ -4,6 +4,7 @@ use Rattle.std.proofs.Math.ListN.{take}
 use Rattle.mint.specs.Types.{type_at, unfolded, level, ArmsBelow}
 use Rattle.mint.specs.Types.{arms_at as mint_arms}
 use Rattle.cast_stub.specs.declared.send.SendOp.{SendOp}
+use Rattle.cast_stub.specs.declared.send.SendOp.TheVariants as variants
 use Rattle.cast_stub.specs.Append.{append}
 use Rattle.cast_stub.specs.Block.{Block, stop, op_seen, code_seen, cases_seen}
 use Rattle.cast_stub.specs.PartTypes.{ty_at, arms_at}
@@ -45,18 +46,22 @@ put_op-switch_bodies-requires t c = (
   (
     c.requires.id,
     (switch_has sends (IsReady c.args.enc (type_at c.args.mint.now c.args.id)) c.args.op.now c.requires.ready c.in-Switch.path
-        c.in-Switch.cases c.in-Switch.last c.in-Switch.is).0,
+        c.deref.result.now c.in-Switch.last (c.in-Switch.is
+        ∙ ap (λ (l : List (ℤ × List SendOp)). variants.Switch c.in-Switch.path l c.in-Switch.last) (sym c.deref.ensures))).0,
   ),
 )
 
-pub put_op-returns-in_ok-copy_path-in-Switch : goal.put_op-returns-in_ok-copy_path-in-Switch
-put_op-returns-in_ok-copy_path-in-Switch t c =
+pub put_op-returns-in_ok-switch-in-Switch : goal.put_op-returns-in_ok-switch-in-Switch
+put_op-returns-in_ok-switch-in-Switch t c =
     let ty = type_at c.args.mint.now c.args.id in
     subst (λ (b : Block). OnOk c.add-in-Switch.result (code_seen c.add-in-Switch.new.out ≡ append (code_seen c.args.out.now) b))
-    (switch_is sends (rowed c.args.enc ty) c.args.op.now c.in-Switch.path _ c.in-Switch.path c.in-Switch.cases _ c.in-Switch.last _
-    (by_type (arms_at c.in-Switch.path ty) (cases_seen c.in-Switch.cases c.in-Switch.last)
-    (λ arms. cases_rowed c.args.enc arms (cases_seen c.in-Switch.cases c.in-Switch.last)))
-    c.in-Switch.is refl c.in_ok-copy_path-in-Switch.ensures c.in_ok-bodies-in-Switch.ensures)
+    (ap (λ (o : SendOp). op_seen o stop) c.in_ok-switch-in-Switch.ensures
+    ∙ switch_is sends (rowed c.args.enc ty) c.args.op.now c.in-Switch.path _ c.in-Switch.path c.deref.result.now _ c.in-Switch.last _
+    (by_type (arms_at c.in-Switch.path ty) (cases_seen c.deref.result.now c.in-Switch.last)
+    (λ arms. cases_rowed c.args.enc arms (cases_seen c.deref.result.now c.in-Switch.last)))
+    (c.in-Switch.is
+    ∙ ap (λ (l : List (ℤ × List SendOp)). variants.Switch c.in-Switch.path l c.in-Switch.last) (sym c.deref.ensures))
+    refl c.in_ok-same-in-Switch.ensures c.in_ok-bodies-in-Switch.ensures)
     c.add-in-Switch.ensures
 
 pub rows_cases-bounds-arms-i : goal.rows_cases-bounds-arms-i

@@ -2,6 +2,7 @@ use Rattle.std.proofs.Common.{length, ℤ, arith, drop, ◌≡◌, List, ℕ, ap
 use Rattle.mint.specs.Types.{unfolded, type_at}
 use Rattle.mint.specs.Types.{arms_at as mint_arms}
 use Rattle.cast_stub.specs.declared.send.SendOp.{SendOp}
+use Rattle.cast_stub.specs.declared.send.SendOp.TheVariants as variants
 use Rattle.cast_stub.specs.Block.{code_seen, cases_seen}
 use Rattle.hoist.specs.Bound.{bound, cases_bound}
 use Rattle.std.proofs.lemmas.Result.{IfOk-weaker}
@@ -39,9 +40,9 @@ pub op_bound-returns-in-Switch : goal.op_bound-returns-in-Switch
 op_bound-returns-in-Switch t c =
     IfOk-weaker c.switch_bound.result
     (λ n. n ≡ on_some (arms_at c.in-Switch.path (type_at c.args.mint.now c.args.id))
-    (λ arms. cases_bound arms (cases_seen c.in-Switch.cases c.in-Switch.other)))
+    (λ arms. cases_bound arms (cases_seen c.deref.result.now c.in-Switch.other)))
     (λ n. (r : Block)
     → bound (type_at c.args.mint.now c.args.id) (op_seen c.args.op.now r) ≡ plus n (bound (type_at c.args.mint.now c.args.id) r))
-    (λ n e. switch_turn (type_at c.args.mint.now c.args.id) c.args.op.now c.in-Switch.path c.in-Switch.cases c.in-Switch.other n
-    c.in-Switch.is e)
+    (λ n e. switch_turn (type_at c.args.mint.now c.args.id) c.args.op.now c.in-Switch.path c.deref.result.now c.in-Switch.other n
+    (c.in-Switch.is ∙ ap (λ (l : List (ℤ × List SendOp)). variants.Switch c.in-Switch.path l c.in-Switch.other) (sym c.deref.ensures)) e)
     c.switch_bound.ensures

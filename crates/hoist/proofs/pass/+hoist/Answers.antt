@@ -5,8 +5,8 @@ use Rattle.mint.specs.Types.{type_at, unfolded, level, ArmsBelow}
 use Rattle.mint.specs.Types.{arms_at as mint_arms}
 use Rattle.cast_stub.specs.declared.send.SendOp.{SendOp}
 use Rattle.cast_stub.specs.Block.{Block, stop, op_seen, code_seen, cases_seen}
-use Rattle.cast_stub.specs.PartTypes.{ty_at, present_at}
-use Rattle.hoist.specs.Hoisted.{closed, hoisted, kept, items_at, or_void, IsTaken}
+use Rattle.cast_stub.specs.PartTypes.{ty_at, present_at, arms_at}
+use Rattle.hoist.specs.Hoisted.{closed, hoisted, cases_hoisted, kept, switch_plan, items_at, or_void, or_none, InType, WhereApart, IsTaken, CasesTaken}
 use Rattle.hoist.specs.Seen.{span_roles, plan_seen, HoistedFor, AreHoisted, TakenFor, ArmsTaken}
 use Rattle.hoist.proofs.Passing.{front-align, front-chunk, front-patch, front-each, front-some, front-switch, switch-taken, switch-apart, switch-kept, each-kept, some-kept}
 use Rattle.cast_stub.proofs.Directions.{sends}
@@ -75,17 +75,25 @@ hoist_cases-returns t c =
     (omega (arith, c.loop-i-test.false, ap length c.as_slice-cases.ensures)) so_far
 
 pub hoist_op-switch_bodies-requires : goal.hoist_op-switch_bodies-requires
-hoist_op-switch_bodies-requires t c = (
-  omega arith,
-  (
-    c.requires.id,
-    (
-      c.requires.classes,
-      switch-taken c.args.classes.now.enc (type_at c.args.mint.now c.args.id) c.args.op.now c.in-Switch.path c.in-Switch.cases
-          c.in-Switch.last c.in_ok-plan-in-Switch.plan c.in-Switch.is c.in_ok-plan-in-Switch.ensures.ok c.requires.taken,
-    ),
-  ),
-)
+hoist_op-switch_bodies-requires t c =
+    let roles = span_roles c.args.classes.now.enc in
+    let ty = type_at c.args.mint.now c.args.id in (
+      omega arith,
+      (
+        c.requires.id,
+        (
+          c.requires.classes,
+          subst (λ (l : List (ℤ × List SendOp)). WhereApart (plan_seen c.in-Switch.path c.in_ok-plan-in-Switch.plan)
+              (InType (arms_at c.in-Switch.path ty) (λ arms. CasesTaken roles arms (cases_seen l c.in-Switch.last))))
+              (sym c.deref-in-Switch.ensures)
+              (switch-taken c.args.classes.now.enc ty c.args.op.now c.in-Switch.path c.in-Switch.cases
+              c.in-Switch.last c.in_ok-plan-in-Switch.plan c.in-Switch.is
+              (c.in_ok-plan-in-Switch.ensures.ok
+              ∙ ap (λ (l : List (ℤ × List SendOp)). switch_plan roles ty c.in-Switch.path (cases_seen l c.in-Switch.last)) c.deref.ensures)
+              c.requires.taken),
+        ),
+      ),
+    )
 
 pub hoist_op-returns-in_ok-push-in-Align : goal.hoist_op-returns-in_ok-push-in-Align
 hoist_op-returns-in_ok-push-in-Align t c =
@@ -126,12 +134,19 @@ hoist_op-returns-in_ok-push-in-Some t c =
 
 pub hoist_op-returns-in_ok-push-in-Switch : goal.hoist_op-returns-in_ok-push-in-Switch
 hoist_op-returns-in_ok-push-in-Switch t c =
-    front-switch c.args.classes.now.enc (type_at c.args.mint.now c.args.id) c.args.op.now c.in-Switch.path
+    let roles = span_roles c.args.classes.now.enc in
+    let ty = type_at c.args.mint.now c.args.id in
+    front-switch c.args.classes.now.enc ty c.args.op.now c.in_ok-switch-in-Switch.field-0 c.in-Switch.path
     c.in_ok-copy_path-in-Switch.field-0 c.in_ok-copy_path-in-Switch-2.field-0 c.in-Switch.cases c.in_ok-bodies-in-Switch.bodies
     c.in-Switch.last c.in_ok-bodies-in-Switch.other c.in_ok-plan-in-Switch.plan
     c.args.back.now.items c.settle-in-Switch.new.back.items c.push-in-Switch.new.self.items c.args.ahead c.in_ok-then-in-Switch.then
-    c.in-Switch.is c.in_ok-copy_path-in-Switch.ensures c.in_ok-copy_path-in-Switch-2.ensures c.in_ok-plan-in-Switch.ensures.ok
-    c.in_ok-bodies-in-Switch.ensures c.in_ok-then-in-Switch.ensures c.in_ok-push-in-Switch.ensures.items
+    c.in-Switch.is c.in_ok-switch-in-Switch.ensures c.in_ok-copy_path-in-Switch.ensures c.in_ok-copy_path-in-Switch-2.ensures
+    (c.in_ok-plan-in-Switch.ensures.ok
+    ∙ ap (λ (l : List (ℤ × List SendOp)). switch_plan roles ty c.in-Switch.path (cases_seen l c.in-Switch.last)) c.deref.ensures)
+    (c.in_ok-bodies-in-Switch.ensures
+    ∙ ap (λ (l : List (ℤ × List SendOp)). kept (plan_seen c.in-Switch.path c.in_ok-plan-in-Switch.plan) (cases_seen l c.in-Switch.last)
+    (cases_hoisted roles (or_none (arms_at c.in-Switch.path ty)) (cases_seen l c.in-Switch.last))) c.deref-in-Switch.ensures)
+    c.in_ok-then-in-Switch.ensures c.in_ok-push-in-Switch.ensures.items
 
 pub hoist_ops-hoist_op-requires : goal.hoist_ops-hoist_op-requires
 hoist_ops-hoist_op-requires t c =

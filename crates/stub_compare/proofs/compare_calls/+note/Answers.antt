@@ -1,4 +1,4 @@
-use Rattle.std.proofs.Common.{ℕ, ◌+◌, true, false, List, [], ◌++◌, drop, ap, ◌∙◌, refl, arith}
+use Rattle.std.proofs.Common.{ℕ, ◌+◌, true, false, List, [], ◌++◌, drop, ap, ◌∙◌, refl, arith, Some, sym}
 use Rattle.cast_stub.specs.Block.{ensure, ensure_row, align, chunk, row_copy, row_swap, row_wide, each, switch, if_there, call, patch, op_seen, code_seen, cases_seen}
 use Rattle.cast_stub.proofs.Pieces.{seen-Ensure, seen-EnsureRow, seen-Align, seen-Chunk, seen-RowCopy, seen-RowSwap, seen-RowWide, seen-Each, seen-Switch, seen-Some, seen-Call, seen-Patch}
 use Rattle.stub_flat.specs.Places.{Spot, node_of, spot_at, element, present}
@@ -61,7 +61,8 @@ note_op-returns-in-Switch-clause-noted t c =
     through _ N _ c.args.op.now (switch x.path cs) (way_calls N (node_of N (spot_at N x.path c.args.spot)) cs cs) _ _
     (ap op_seen x.is ∙ seen-Switch x.path x.cases x.last) (λ r. refl)
     (noted_at (λ (s : Spot). way_calls N (node_of N s) cs cs) _ _ _ _ _
-    (c.spot_at-place.ensures ∙ ap (λ (p : List ℕ). spot_at N p c.args.spot) c.as_slice-in-Switch.ensures) c.note_ways.ensures.noted)
+    (c.spot_at-place.ensures ∙ ap (λ (p : List ℕ). spot_at N p c.args.spot) c.as_slice-in-Switch.ensures)
+    (rw c.deref.ensures at c.note_ways.ensures.noted))
 
 pub note_op-returns-in-Some-clause-noted : goal.note_op-returns-in-Some-clause-noted
 note_op-returns-in-Some-clause-noted t c =
@@ -167,14 +168,15 @@ note_ways-returns-in-Some-clause-noted t c =
     let last = c.args.last.now in
     let i = c.loop-case.case-index in
     let spot = c.rest_spot_at-spot.result in
-    let body = calls N spot (code_seen c.in-Some.body) in
+    let body = calls N spot (code_seen c.deref.result.now) in
     let old = c.args.nodes.now.items in
     let now = c.loop-case.nodes.items in
     let new = c.note_ops-in-Some.new.nodes.items in
     all_ways N n all xs c.args.cases.now last c.note_ops-in-Some.result old new c.as_slice-case-items.ensures
     (then_last (way_calls N n all (cases_seen xs last)) body c.note_ops-in-Some.result old now new
     (c.loop-case.invariant.left ∙ opened (way_calls N n all (cases_seen (drop i xs) last)) body now
-    (ways_last N n all xs last i c.in-Some.body spot (omega (arith, c.loop-case-test.false)) c.in-Some.is
+    (ways_last N n all xs last i c.deref.result.now spot (omega (arith, c.loop-case-test.false))
+    (c.in-Some.is ∙ ap Some (sym c.deref.ensures))
     (c.rest_spot_at-spot.ensures c.args.last.now))) c.note_ops-in-Some.ensures.noted)
 
 pub note_ways-returns-in-None-clause-noted : goal.note_ways-returns-in-None-clause-noted

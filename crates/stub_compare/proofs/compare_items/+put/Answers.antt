@@ -128,7 +128,7 @@ put_op-returns-in_ok-put_over-in-Switch t c =
     (if_switch N c.args.spot x.path cs c.spot_at-place.result c.put_ways.result (set_of c.args.set.now) c.args.out.now
     c.put_over-in-Switch.new.out c.put_ways.new.out
     (c.spot_at-place.ensures ∙ ap (λ (p : List ℕ). spot_at N p c.args.spot) c.as_slice-in-Switch.ensures)
-    c.in_ok-put_over-in-Switch.ensures c.put_ways.ensures)
+    c.in_ok-put_over-in-Switch.ensures (rw c.deref.ensures at c.put_ways.ensures))
 
 pub put_op-returns-in-Some-there : goal.put_op-returns-in-Some-there
 put_op-returns-in-Some-there t c =
@@ -204,9 +204,9 @@ put_ways-returns-in-Some-rest t c =
     let N = c.args.mint.now in
     let all = cases_seen c.args.cases.now c.args.last.now in
     ways_last N c.args.place all c.as_slice-case-items.result.now c.args.cases.now c.args.last.now c.loop-case.case-index
-    c.in-Some-last.body c.rest_spot_at-spot.result c.in_ok-rest-in-Some-last.rest c.in-Some-rest.behind (set_of c.args.set.now)
+    c.deref.result.now c.rest_spot_at-spot.result c.in_ok-rest-in-Some-last.rest c.in-Some-rest.behind (set_of c.args.set.now)
     c.loop-case.total c.sum.result c.args.out.now c.loop-case.out c.put_number.new.out c.put_ops-in-Some-last.new.out
-    (omega (arith, c.loop-case-test.false)) c.as_slice-case-items.ensures c.in-Some-last.is
+    (omega (arith, c.loop-case-test.false)) c.as_slice-case-items.ensures (c.in-Some-last.is ∙ ap Some (sym c.deref.ensures))
     (c.rest_spot_at-spot.ensures c.args.last.now) c.in-Some-rest.is refl c.loop-case.invariant c.in_ok-put_number-in-Some-last.ensures
     c.in_ok-rest-in-Some-last.ensures c.sum.ensures
 
@@ -215,9 +215,9 @@ put_ways-returns-in-None-rest t c =
     let N = c.args.mint.now in
     let all = cases_seen c.args.cases.now c.args.last.now in
     ways_last_nothing N c.args.place all c.as_slice-case-items.result.now c.args.cases.now c.args.last.now c.loop-case.case-index
-    c.in-Some-last.body c.rest_spot_at-spot.result c.in_ok-rest-in-Some-last.rest (set_of c.args.set.now) (set_of c.loop-case.total)
+    c.deref.result.now c.rest_spot_at-spot.result c.in_ok-rest-in-Some-last.rest (set_of c.args.set.now) (set_of c.loop-case.total)
     c.args.out.now c.loop-case.out c.put_number.new.out c.put_ops-in-Some-last.new.out
-    (omega (arith, c.loop-case-test.false)) c.as_slice-case-items.ensures c.in-Some-last.is
+    (omega (arith, c.loop-case-test.false)) c.as_slice-case-items.ensures (c.in-Some-last.is ∙ ap Some (sym c.deref.ensures))
     (c.rest_spot_at-spot.ensures c.args.last.now) c.in-None-rest.is refl c.loop-case.invariant
     c.in_ok-put_number-in-Some-last.ensures c.in_ok-rest-in-Some-last.ensures
 

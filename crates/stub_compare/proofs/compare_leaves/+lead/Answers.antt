@@ -1,4 +1,4 @@
-use Rattle.std.proofs.Common.{◌≡◌, ℕ, List, ap, ◌∙◌, refl, arith, if◌then◌else◌}
+use Rattle.std.proofs.Common.{◌≡◌, ℕ, List, ap, ◌∙◌, refl, arith, if◌then◌else◌, Some, sym}
 use Rattle.cast_stub.specs.Steps.{is_width}
 use Rattle.cast_stub.specs.Block.{ensure, ensure_row, align, chunk, row_copy, row_swap, row_wide, each, switch, if_there, call, patch, op_seen, code_seen, cases_seen}
 use Rattle.cast_stub.proofs.Pieces.{seen-Ensure, seen-EnsureRow, seen-Align, seen-Chunk, seen-RowCopy, seen-RowSwap, seen-RowWide, seen-Each, seen-Switch, seen-Some, seen-Call, seen-Patch}
@@ -94,7 +94,8 @@ lead_op-returns-in-Switch t c =
     leads_by _ _ c.args.op.now (switch x.path cs) (ways_leave N (node_of N (spot_at N x.path c.args.spot)) cs cs) _ _
     (ap op_seen x.is ∙ seen-Switch x.path x.cases x.last) (λ r S. refl)
     (led_at (λ (s : Spot). ways_leave N (node_of N s) cs cs) _ _ c.args.table.now c.lead_ways.result
-    (c.spot_at-place.ensures ∙ ap (λ (p : List ℕ). spot_at N p c.args.spot) c.as_slice-in-Switch.ensures) c.lead_ways.ensures)
+    (c.spot_at-place.ensures ∙ ap (λ (p : List ℕ). spot_at N p c.args.spot) c.as_slice-in-Switch.ensures)
+    (rw c.deref.ensures at c.lead_ways.ensures))
 
 pub lead_op-returns-in-Some : goal.lead_op-returns-in-Some
 lead_op-returns-in-Some t c =
@@ -141,9 +142,10 @@ pub lead_ways-returns-in-Some : goal.lead_ways-returns-in-Some
 lead_ways-returns-in-Some t c =
     let N = c.args.mint.now in
     ways_last N (node_of N c.args.place) (cases_seen c.args.cases.now c.args.last.now) c.as_slice-case-items.result.now
-    c.args.cases.now c.args.last.now c.loop-case.case-index c.in-Some.body c.rest_spot_at-spot.result c.args.table.now
+    c.args.cases.now c.args.last.now c.loop-case.case-index c.deref.result.now c.rest_spot_at-spot.result c.args.table.now
     c.loop-case.total c.lead_ops-behind-in-Some.result c.sum_each.result (omega (arith, c.loop-case-test.false))
-    c.as_slice-case-items.ensures c.in-Some.is (c.rest_spot_at-spot.ensures c.args.last.now) c.loop-case.invariant
+    c.as_slice-case-items.ensures (c.in-Some.is ∙ ap Some (sym c.deref.ensures))
+    (c.rest_spot_at-spot.ensures c.args.last.now) c.loop-case.invariant
     c.lead_ops-behind-in-Some.ensures c.sum_each.ensures
 
 pub lead_ways-returns-in-None : goal.lead_ways-returns-in-None

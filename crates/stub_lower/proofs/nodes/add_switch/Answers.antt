@@ -4,6 +4,7 @@ use Rattle.stub_lower.proofs.Calling.{switch_put}
 use Rattle.stub_lower.proofs.nodes.add_switch.Goals as goal
 
 pub returns : goal.returns
-returns c = switch_put sends c.add.result c.args.arms.now c.as_slice-n-items.result.now c.loop-n.n-index _ _ _ _ _ _
+returns c = switch_put sends c.add.result c.args.arms.now c.as_slice-n-items.result.now c.loop-n.n-index _ _ _ _ _ _ _
     c.as_slice-n-items.ensures
-    (omega (arith, c.loop-n-test.false)) c.new.ensures c.loop-n.invariant c.in_ok-default.ensures c.add.ensures
+    (omega (arith, c.loop-n-test.false)) c.new.ensures c.loop-n.invariant c.in_ok-default.ensures c.in_ok-switch.ensures
+    c.add.ensures

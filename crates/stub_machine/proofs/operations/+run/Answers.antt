@@ -1,4 +1,4 @@
-use Rattle.std.proofs.Common.{◌≡◌, ◌<◌, ◌≤◌, ◌-◌, suc, arith, length, sym, ap, subst, List, OnOk, OnErr}
+use Rattle.std.proofs.Common.{◌≡◌, ◌<◌, ◌≤◌, ◌-◌, suc, arith, length, sym, ap, ◌∙◌, subst, List, Some, OnOk, OnErr}
 use Rattle.stub_machine.proofs.Sizes.{code_size, op-in-code, each-in-op, case-in-op, default-in-op, called-is-less}
 use Rattle.mint.specs.Values.{seen, all_seen, Val}
 use Rattle.mint.specs.declared.value.Value.{Value}
@@ -62,9 +62,9 @@ run_op-run_block-requires t c =
     c.in-Switch.other _ c.in-Switch.is c.requires in
     let e = picked_body k c.args.machine.now.head.now (seen c.args.value.now) c.in-Switch.path c.in-Switch.cases c.as_slice.result.now
     c.in-Switch.other c.in-Some-arm_at.n.now (seen c.in-Some-arm_at.inner.now) c.in-Some-position.i c.index-as_slice-i.result
-    c.in-Some-arm_at.ensures c.in-Some-position.ensures c.as_slice.ensures in
+    c.in-Some-arm_at.ensures c.in-Some-position.ensures (c.as_slice.ensures ∙ c.deref.ensures) in
     let less = case-in-op c.args.op.now c.in-Switch.path c.in-Switch.cases c.as_slice.result.now c.in-Switch.other c.in-Some-position.i
-    c.index-as_slice-i.result c.in-Switch.is c.in-Some-position.ensures.0 c.as_slice.ensures in
+    c.index-as_slice-i.result c.in-Switch.is c.in-Some-position.ensures.0 (c.as_slice.ensures ∙ c.deref.ensures) in
     (omega (arith, less), subst (λ (x : Steps). Runs x (state_of c.args.buf.now)) e r)
 
 pub run_op-returns-in-Some-position-clause-ok : goal.run_op-returns-in-Some-position-clause-ok
@@ -72,7 +72,7 @@ run_op-returns-in-Some-position-clause-ok t c =
     let k = calls_of c.args.machine.now.subs.now c.args.machine.now.head.now c.args.calls in
     let e = picked_body k c.args.machine.now.head.now (seen c.args.value.now) c.in-Switch.path c.in-Switch.cases c.as_slice.result.now
     c.in-Switch.other c.in-Some-arm_at.n.now (seen c.in-Some-arm_at.inner.now) c.in-Some-position.i c.index-as_slice-i.result
-    c.in-Some-arm_at.ensures c.in-Some-position.ensures c.as_slice.ensures in
+    c.in-Some-arm_at.ensures c.in-Some-position.ensures (c.as_slice.ensures ∙ c.deref.ensures) in
     ok_map c.run_block.result _ _ (switch_ends k c.args.machine.now.head.now (seen c.args.value.now) c.args.op.now c.in-Switch.path
     c.in-Switch.cases c.in-Switch.other (state_of c.args.buf.now) (state_of c.run_block.new.buf) c.in-Switch.is)
     (subst (λ (x : Steps). OnOk c.run_block.result (Ends x (state_of c.args.buf.now) (state_of c.run_block.new.buf))) (sym e)
@@ -84,18 +84,18 @@ run_op-run_block-requires-in-Some-other t c =
     let r = switch_runs k c.args.machine.now.head.now (seen c.args.value.now) c.args.op.now c.in-Switch.path c.in-Switch.cases
     c.in-Switch.other _ c.in-Switch.is c.requires in
     let e = default_steps k c.args.machine.now.head.now (seen c.args.value.now) c.in-Switch.path c.in-Switch.cases c.in-Switch.other
-    c.in-Some-arm_at.n.now (seen c.in-Some-arm_at.inner.now) c.in-Some-other.body (sym c.in-Some-arm_at.ensures) c.in-None.ensures
-    c.in-Some-other.is in
-    let less = default-in-op c.args.op.now c.in-Switch.path c.in-Switch.cases c.in-Switch.other c.in-Some-other.body c.in-Switch.is
-    c.in-Some-other.is in
+    c.in-Some-arm_at.n.now (seen c.in-Some-arm_at.inner.now) c.deref-in-Some-other.result.now (sym c.in-Some-arm_at.ensures)
+    c.in-None.ensures (c.in-Some-other.is ∙ ap Some (sym c.deref-in-Some-other.ensures)) in
+    let less = default-in-op c.args.op.now c.in-Switch.path c.in-Switch.cases c.in-Switch.other c.deref-in-Some-other.result.now
+    c.in-Switch.is (c.in-Some-other.is ∙ ap Some (sym c.deref-in-Some-other.ensures)) in
     (omega (arith, less), subst (λ (x : Steps). Runs x (state_of c.args.buf.now)) e r)
 
 pub run_op-returns-in-Some-other-clause-ok : goal.run_op-returns-in-Some-other-clause-ok
 run_op-returns-in-Some-other-clause-ok t c =
     let k = calls_of c.args.machine.now.subs.now c.args.machine.now.head.now c.args.calls in
     let e = default_steps k c.args.machine.now.head.now (seen c.args.value.now) c.in-Switch.path c.in-Switch.cases c.in-Switch.other
-    c.in-Some-arm_at.n.now (seen c.in-Some-arm_at.inner.now) c.in-Some-other.body (sym c.in-Some-arm_at.ensures) c.in-None.ensures
-    c.in-Some-other.is in
+    c.in-Some-arm_at.n.now (seen c.in-Some-arm_at.inner.now) c.deref-in-Some-other.result.now (sym c.in-Some-arm_at.ensures)
+    c.in-None.ensures (c.in-Some-other.is ∙ ap Some (sym c.deref-in-Some-other.ensures)) in
     ok_map c.run_block-in-Some-other.result _ _
     (switch_ends k c.args.machine.now.head.now (seen c.args.value.now) c.args.op.now c.in-Switch.path c.in-Switch.cases c.in-Switch.other
     (state_of c.args.buf.now) (state_of c.run_block-in-Some-other.new.buf) c.in-Switch.is)
@@ -153,7 +153,7 @@ run_op-returns-in-Some-position-clause-err t c =
     let k = calls_of c.args.machine.now.subs.now c.args.machine.now.head.now c.args.calls in
     let e = picked_body k c.args.machine.now.head.now (seen c.args.value.now) c.in-Switch.path c.in-Switch.cases c.as_slice.result.now
     c.in-Switch.other c.in-Some-arm_at.n.now (seen c.in-Some-arm_at.inner.now) c.in-Some-position.i c.index-as_slice-i.result
-    c.in-Some-arm_at.ensures c.in-Some-position.ensures c.as_slice.ensures in
+    c.in-Some-arm_at.ensures c.in-Some-position.ensures (c.as_slice.ensures ∙ c.deref.ensures) in
     err_map c.run_block.result _ _ (switch_grown k c.args.machine.now.head.now (seen c.args.value.now) c.args.op.now c.in-Switch.path
     c.in-Switch.cases c.in-Switch.other (state_of c.args.buf.now) (state_of c.run_block.new.buf) c.in-Switch.is)
     (subst (λ (x : Steps). OnErr c.run_block.result (Grown x (state_of c.args.buf.now) (state_of c.run_block.new.buf))) (sym e)
@@ -163,8 +163,8 @@ pub run_op-returns-in-Some-other-clause-err : goal.run_op-returns-in-Some-other-
 run_op-returns-in-Some-other-clause-err t c =
     let k = calls_of c.args.machine.now.subs.now c.args.machine.now.head.now c.args.calls in
     let e = default_steps k c.args.machine.now.head.now (seen c.args.value.now) c.in-Switch.path c.in-Switch.cases c.in-Switch.other
-    c.in-Some-arm_at.n.now (seen c.in-Some-arm_at.inner.now) c.in-Some-other.body (sym c.in-Some-arm_at.ensures) c.in-None.ensures
-    c.in-Some-other.is in
+    c.in-Some-arm_at.n.now (seen c.in-Some-arm_at.inner.now) c.deref-in-Some-other.result.now (sym c.in-Some-arm_at.ensures)
+    c.in-None.ensures (c.in-Some-other.is ∙ ap Some (sym c.deref-in-Some-other.ensures)) in
     err_map c.run_block-in-Some-other.result _ _
     (switch_grown k c.args.machine.now.head.now (seen c.args.value.now) c.args.op.now c.in-Switch.path c.in-Switch.cases c.in-Switch.other
     (state_of c.args.buf.now) (state_of c.run_block-in-Some-other.new.buf) c.in-Switch.is)

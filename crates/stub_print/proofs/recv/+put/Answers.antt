@@ -1,3 +1,4 @@
+use Rattle.std.proofs.Common.{Some, sym, ap, ◌∙◌}
 use Rattle.cast_stub.specs.declared.recv.Get.{Get}
 use Rattle.cast_stub.proofs.Directions.{receives}
 use Rattle.stub_print.proofs.BothTexts.{received_text}
@@ -20,13 +21,14 @@ pub put_op-returns-in-None : goal.put_op-returns-in-None
 put_op-returns-in-None t c =
     switch_put receives Get received_text c.put_end-in-None.result c.args.op.now _ _ _ _ _ c.args.out.now _ _ c.put_end-in-None.new.out
     c.in-Switch.is c.in-None.is
-    c.in_ok-put_over-in-Switch.ensures c.as_slice-case-items.ensures c.loop-case-test.false c.loop-case.invariant
+    c.in_ok-put_over-in-Switch.ensures (c.as_slice-case-items.ensures ∙ c.deref.ensures) c.loop-case-test.false c.loop-case.invariant
     c.put_end-in-None.ensures
 
 pub put_op-returns-in_ok-put_ops-in-Some-other : goal.put_op-returns-in_ok-put_ops-in-Some-other
 put_op-returns-in_ok-put_ops-in-Some-other t c =
     switch_default_put receives Get received_text c.put_end-in-Some-other.result c.args.op.now _ _ _ _ _ _ c.args.out.now _ _ _ _
     c.put_end-in-Some-other.new.out
-    c.in-Switch.is c.in-Some-other.is c.in_ok-put_over-in-Switch.ensures c.as_slice-case-items.ensures c.loop-case-test.false
+    c.in-Switch.is (c.in-Some-other.is ∙ ap Some (sym c.deref-in-Some-other.ensures)) c.in_ok-put_over-in-Switch.ensures
+    (c.as_slice-case-items.ensures ∙ c.deref.ensures) c.loop-case-test.false
     c.loop-case.invariant c.in_ok-put_alone-in-Some-other.ensures c.in_ok-put_ops-in-Some-other.ensures
     c.put_end-in-Some-other.ensures

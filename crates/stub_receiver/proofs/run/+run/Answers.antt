@@ -17,7 +17,7 @@ use Rattle.stub_receiver.proofs.Drafting.{drawn-Digit}
 use Rattle.stub_receiver.specs.Sizes.{code_size}
 use Rattle.stub_receiver.proofs.Sizing.{op-in-code, cases-in-op, called-is-less}
 use Rattle.stub_receiver.proofs.Within.{put_fits, put_again}
-use Rattle.stub_receiver.proofs.Running.{op_holds, op_gives, op_halts, settle_holds, item_holds, item_turn, each_acted, some_acted, switch_acted, part_there, part_holds, part_gives, part_halts, no_arm, arm_given, arm_halts, digit_there, no_digit, digit_is, values_given, numbers_given, number_holds, number_turn, numbers_end, called_is}
+use Rattle.stub_receiver.proofs.Running.{op_holds, op_gives, op_halts, settle_holds, turn_holds, item_turn, each_acted, some_acted, switch_acted, part_there, part_holds, part_gives, part_halts, no_arm, arm_given, arm_halts, digit_there, no_digit, digit_is, values_given, numbers_given, number_turn, numbers_end, called_is}
 use Rattle.stub_receiver.proofs.Flattening.{flat_is}
 use Rattle.stub_receiver.proofs.run.+run.Goals as goal
 
@@ -175,7 +175,7 @@ pub run_items-run_fresh-requires : goal.run_items-run_fresh-requires
 run_items-run_fresh-requires t c =
     let lt : c.loop.counter < c.args.n = omega (arith, c.loop-test.true) in (
       omega arith,
-      item_holds (λ u. settled ((fill (calls_of c.args.machine.now.subs.now c.args.calls) (code_seen c.args.body.now))
+      turn_holds (λ u. settled ((fill (calls_of c.args.machine.now.subs.now c.args.calls) (code_seen c.args.body.now))
           (fresh (type_at c.args.machine.now.mint.now c.args.item)) u)) c.args.n c.loop.counter _ _ _ lt c.loop.invariant.0 c.requires,
     )
 
@@ -192,7 +192,7 @@ pub run_numbers-run_digit-requires : goal.run_numbers-run_digit-requires
 run_numbers-run_digit-requires t c =
     let lt : c.loop.counter < c.args.n = omega (arith, c.loop-test.true) in (
       omega arith,
-      number_holds (λ u. settled_number ((fill (calls_of c.args.machine.now.subs.now c.args.calls) (code_seen c.args.body.now))
+      turn_holds (λ u. settled_number ((fill (calls_of c.args.machine.now.subs.now c.args.calls) (code_seen c.args.body.now))
           (digit (array_at c.args.machine.now.mint.now c.args.id)) u)) c.args.n c.loop.counter _ _ _ lt c.loop.invariant.0 c.requires,
     )
 

@@ -1,4 +1,4 @@
-use Rattle.std.proofs.Common.{if◌then◌else◌, ap, ◌∙◌, sym, refl, arith}
+use Rattle.std.proofs.Common.{if◌then◌else◌, ap, ◌∙◌, sym, refl, arith, Some}
 use Rattle.cast_stub.specs.Steps.{is_width}
 use Rattle.cast_stub.specs.Block.{ensure, ensure_row, align, chunk, row_copy, row_swap, row_wide, each, switch, if_there, call, patch, op_seen, code_seen, cases_seen}
 use Rattle.cast_stub.proofs.Pieces.{seen-Ensure, seen-EnsureRow, seen-Align, seen-Chunk, seen-RowCopy, seen-RowSwap, seen-RowWide, seen-Each, seen-Switch, seen-Some, seen-Call, seen-Patch}
@@ -83,7 +83,7 @@ leave_op-returns-in-Switch t c =
     let cs = cases_seen x.cases x.last in
     leads_if _ _ c.args.op.now (switch x.path cs) (ways_leave N (node_of N (spot_at N x.path c.args.spot)) cs cs) _ _
     (ap op_seen x.is ∙ seen-Switch x.path x.cases x.last) (λ r S. refl)
-    (ways_at_place N cs _ _ _ _ c.place_at-place.ensures c.leave_ways.ensures)
+    (ways_at_place N cs _ _ _ _ c.place_at-place.ensures (rw c.deref.ensures at c.leave_ways.ensures))
 
 pub leave_op-returns-in_ok-leaves-in-Some : goal.leave_op-returns-in_ok-leaves-in-Some
 leave_op-returns-in_ok-leaves-in-Some t c =
@@ -127,7 +127,8 @@ pub leave_ways-returns-in_ok-leaves-in-Some : goal.leave_ways-returns-in_ok-leav
 leave_ways-returns-in_ok-leaves-in-Some t c =
     ways_seen _ _ _ c.as_slice-case-items.result.now c.args.cases.now c.args.last.now _ _ c.as_slice-case-items.ensures
     (ways_last _ _ _ _ c.as_slice-case-items.result.now c.args.last.now c.loop-case.case-index _ _ c.loop-case.invariant
-    c.in-Some.body _ _ _ (omega (arith, c.loop-case-test.false)) c.in-Some.is (c.rest_spot_at-spot.ensures c.args.last.now)
+    c.deref.result.now _ _ _ (omega (arith, c.loop-case-test.false)) (c.in-Some.is ∙ ap Some (sym c.deref.ensures))
+    (c.rest_spot_at-spot.ensures c.args.last.now)
     c.in_ok-leaves-in-Some.ensures c.sum.ensures)
 
 pub leave_ways-returns-in-None : goal.leave_ways-returns-in-None

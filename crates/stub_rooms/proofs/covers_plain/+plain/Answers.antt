@@ -1,4 +1,4 @@
-use Rattle.std.proofs.Common.{ap, ◌∙◌, refl, arith}
+use Rattle.std.proofs.Common.{ap, ◌∙◌, refl, arith, Some, sym}
 use Rattle.cast_stub.specs.Block.{each, switch, if_there, op_seen, code_seen, cases_seen}
 use Rattle.cast_stub.proofs.Pieces.{seen-Each, seen-Switch, seen-Some}
 use Rattle.stub_cover.specs.Covers.{is_plain, are_plain}
@@ -30,7 +30,7 @@ pub is_plain_op-returns-in-Switch : goal.is_plain_op-returns-in-Switch
 is_plain_op-returns-in-Switch t c =
     let x = c.in-Switch in
     plain_if c.args.op.now (switch x.field-0 (cases_seen x.cases x.last)) (are_plain (cases_seen x.cases x.last)) _
-    (ap op_seen x.is ∙ seen-Switch x.field-0 x.cases x.last) (λ r. refl) c.are_plain.ensures
+    (ap op_seen x.is ∙ seen-Switch x.field-0 x.cases x.last) (λ r. refl) (rw c.deref.ensures at c.are_plain.ensures)
 
 pub is_plain_op-returns-in-Some : goal.is_plain_op-returns-in-Some
 is_plain_op-returns-in-Some t c =
@@ -51,7 +51,8 @@ are_plain-returns-then-not-plain t c =
 pub are_plain-returns-in-Some : goal.are_plain-returns-in-Some
 are_plain-returns-in-Some t c =
     cases_if c.as_slice-case-items.result.now c.args.last.now c.loop-case.case-index c.loop-case.invariant c.args.cases.now
-    c.in-Some.body _ (omega (arith, c.loop-case-test.false)) c.as_slice-case-items.ensures c.in-Some.is c.is_plain-in-Some.ensures
+    c.deref.result.now _ (omega (arith, c.loop-case-test.false)) c.as_slice-case-items.ensures
+    (c.in-Some.is ∙ ap Some (sym c.deref.ensures)) c.is_plain-in-Some.ensures
 
 pub are_plain-returns-in-None : goal.are_plain-returns-in-None
 are_plain-returns-in-None t c =

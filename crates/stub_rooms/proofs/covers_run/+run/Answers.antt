@@ -115,7 +115,7 @@ run_op-returns-in_ok-rooms-in-Switch t c =
     steps_by _ _ c.args.op.now (switch x.path cs) (run_ways N n cs cs) None _ _ _ _ (ap op_seen x.is ∙ seen-Switch x.path x.cases x.last)
     (λ r R. refl)
     (subst (λ s. Follows (run_ways N (node_of N s) cs cs) c.args.state.now.rooms c.in_ok-rooms-in-Switch.rooms) c.place_at-place.ensures
-    c.in_ok-rooms-in-Switch.ensures)
+    (rw c.deref.ensures at c.in_ok-rooms-in-Switch.ensures))
     c.go_on_bare-in-Switch.ensures
 
 pub run_op-returns-in_ok-rooms-in-Some : goal.run_op-returns-in_ok-rooms-in-Some
@@ -159,8 +159,8 @@ run_ways-returns-in-None t c =
 pub run_ways-returns-in_ok-end-in-Some-last : goal.run_ways-returns-in_ok-end-in-Some-last
 run_ways-returns-in_ok-end-in-Some-last t c =
     ways_run_seen _ _ _ c.as_slice-case-items.result.now c.args.cases.now c.args.last.now _ _ c.as_slice-case-items.ensures
-    (ways_last_joined _ _ _ _ c.as_slice-case-items.result.now c.args.last.now c.loop-case.case-index _ _ c.in-Some-last.body _ _ _
-    c.loop-case.invariant (omega (arith, c.loop-case-test.false)) c.in-Some-last.is
+    (ways_last_joined _ _ _ _ c.as_slice-case-items.result.now c.args.last.now c.loop-case.case-index _ _ c.deref.result.now _ _ _
+    c.loop-case.invariant (omega (arith, c.loop-case-test.false)) (c.in-Some-last.is ∙ ap Some (sym c.deref.ensures))
     (c.rest_spot_at-spot.ensures c.args.last.now) c.in_ok-end-in-Some-last.ensures c.joined_last.ensures)
 
 pub run_ways-returns-in-None-last : goal.run_ways-returns-in-None-last
