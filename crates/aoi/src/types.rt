@@ -2,6 +2,7 @@
 
 use crate::FullName;
 use kit_base::{Listed, Name};
+use kit_shared::Shared;
 use mint::kind::{Count, Kind};
 
 /// The items of an enum, each with its number.
@@ -35,8 +36,9 @@ pub enum Ty {
     Array(Box<Ty>, Count),
     /// Arrays within one another: the type of the innermost elements, how many elements the outermost array has,
     /// and how many each one within it has, from the outside in. Their counts are a list, so that a walk over a
-    /// type is not as deep as its arrays. With none within the outermost it is as `Array`.
-    Arrays(Box<Ty>, Count, Counts),
+    /// type is not as deep as its arrays, and the arms of one declaration have one list. With none within the
+    /// outermost it is as `Array`.
+    Arrays(Box<Ty>, Count, Shared<Counts>),
     /// A struct: its fields, each with its name.
     Struct(Fields),
     /// A discriminated union: the type of its discriminant, the arms, each with the number that chooses it,

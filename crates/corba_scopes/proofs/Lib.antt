@@ -8,5 +8,7 @@ pub mod Keyed
 mod Halves
 -- What holds of everything that names stand for, by induction on the names
 pub mod Standing
--- * Names by prefixes and own parts: what they stand for is what full names do, by induction on the names
+-- * Where the prefix of a full name ends: before its last identifier, by induction on the octets of that
+mod Cutting
+-- * Names by their keys: what they stand for is what full names do, by induction on the names
 mod Parting

@@ -1,11 +1,10 @@
--- Names by prefixes and own parts: what they stand for is what full names do, by induction on the names.
-use Rattle.std.proofs.Common.{◌≡◌, ◌+◌, ◌-◌, ◌<◌, ℕ, zero, suc, Bool, true, false, ◌&&◌, ◌||◌, ◌==◌, List, [], ◌∷◌, ◌++◌, map, length, take, drop, get_or, slice_get, position, unwrap_or, Option, Some, None, is_some, Result, Ok, Err, IfOk, refl, sym, ap, subst, ◌∙◌, arith, if◌then◌else◌, take-append-drop}
+-- Names by their keys: what they stand for is what full names do, by induction on the names.
+use Rattle.std.proofs.Common.{◌≡◌, ◌+◌, ◌-◌, ◌<◌, ℕ, zero, suc, Bool, true, false, ◌||◌, ◌==◌, List, [], ◌∷◌, ◌++◌, map, length, drop, get_or, slice_get, position, unwrap_or, Option, Some, None, is_some, refl, sym, ap, subst, ◌∙◌, arith, if◌then◌else◌, take-append-drop, append_assoc}
 use Rattle.std.specs.Prelude.{cond, option_map}
 use Rattle.std.specs.List.{list_any, position_from}
-use Rattle.std.specs.Map.{lookup}
 use Rattle.std.specs.Str.{bytes_eq}
 use Rattle.std.specs.Bool.{one_answer}
-use Rattle.std.proofs.lemmas.Bool.{and_parts, and_from, or_from, false_from_ne_true, eq-eqb, ne_eqb}
+use Rattle.std.proofs.lemmas.Bool.{and_parts, and_from, or_from, false_from_ne_true}
 use Rattle.std.proofs.lemmas.Bool.Decides.{Decides-eqb}
 use Rattle.std.proofs.lemmas.Iterator.Adapters.{position_from-zero}
 use Rattle.std.proofs.lemmas.List.Quantifiers.{position-Some}
@@ -16,46 +15,10 @@ use Rattle.indexmap.specs.IndexMap.{insert_entry}
 use Rattle.indexmap.specs.IndexSet.{insert_key}
 use Rattle.idl_names.specs.Names.{has, is_declared, meaning_of}
 use Rattle.idl_names.proofs.Tables.{append_map, push_map}
-use Rattle.corba_scopes.specs.Parted.{cut_within, begins, cut_by, cut, prefix_in, own_in, Key, same_key, held_at, number_of, full_of, by_names, IsKey, AllKeys, IsNumber, Puts}
-
--- ---- where a prefix ends
-
-step_by : (b : Bool) (n c : ℕ) → b ≡ false → (if b then suc n else c) ≡ c
-step_by true n c h = absurd cc
-step_by false n c h = refl
-
--- an octet that is no dot is not the end
-pub cut_before : (full : List ℕ) (n m : ℕ) → m + 1 ≡ n → (get_or full m 0 ≡ 46 → ⊥) → cut_within full n ≡ cut_within full m
-cut_before full zero m e h = absurd (omega (arith, e))
-cut_before full (suc n) m e h =
-    let same : m ≡ n = omega (arith, e) in
-    step_by (get_or full n 0 == 46) n (cut_within full n) (ne_eqb (get_or full n 0) 46 (subst (λ z. get_or full z 0 ≡ 46 → ⊥) same h))
-    ∙ ap (cut_within full) (sym same)
-
-here_by : (b : Bool) (n c : ℕ) → b ≡ true → (if b then suc n else c) ≡ suc n
-here_by true n c h = refl
-here_by false n c h = absurd cc
-
--- a dot is the end
-pub cut_here : (full : List ℕ) (n m : ℕ) → m + 1 ≡ n → get_or full m 0 ≡ 46 → cut_within full n ≡ n
-cut_here full zero m e h = absurd (omega (arith, e))
-cut_here full (suc n) m e h =
-    let same : m ≡ n = omega (arith, e) in
-    here_by (get_or full n 0 == 46) n (cut_within full n) (eq-eqb (get_or full n 0) 46 (subst (λ z. get_or full z 0 ≡ 46) same h))
-
--- the first dot of the last octets is the end
-pub cut_near : (full front near : List ℕ) (k : ℕ) → front ≡ take (begins full) full → near ≡ drop (begins full) full
-    → Some k ≡ position (λ c. c == 46) near → length front + k + 1 ≡ cut full
-cut_near full front near k before after at =
-    ap (λ z. length z + k + 1) before
-    ∙ ap (cut_by (take (begins full) full)) (at ∙ ap (position (λ c. c == 46)) after)
-
--- the last dot before these is the end
-pub cut_far : (full front near : List ℕ) (end : ℕ) → front ≡ take (begins full) full → near ≡ drop (begins full) full
-    → None ≡ position (λ c. c == 46) near → end ≡ cut_within front (length front) → end ≡ cut full
-cut_far full front near end before after none is =
-    is ∙ ap (λ z. cut_within z (length z)) before
-    ∙ ap (cut_by (take (begins full) full)) (none ∙ ap (position (λ c. c == 46)) after)
+use Rattle.aoi.specs.declared.faults.NameFault.TheVariants.{Twice, CaseClash}
+use Rattle.corba_scopes.specs.declared.meanings.Meaning.{Meaning}
+use Rattle.corba_scopes.specs.Names.{Names, put, lower, clash, declared}
+use Rattle.corba_scopes.specs.Parted.{cut, prefix_in, own_in, Parts, Key, same_key, held_at, number_of, key_by, key_of, full_of, by_names, IsKey, AllKeys, IsNumber, Puts, PutsKey, PutsBoth}
 
 -- ---- numbers of prefixes
 
@@ -190,105 +153,180 @@ set_puts items keys new key prefix old k made is view none last =
 
 -- ---- keys and full names
 
--- the full name of a key that is made of its parts
-full_new : (prefixes : List (List ℕ)) (q : List ℕ) (k : ℕ) → number_of (prefix_in q) prefixes ≡ Some k
-    → full_of prefixes (k, own_in q) ≡ q
-full_new prefixes q k at =
-    ap (λ z. z ++ own_in q) (sym (numbered_is (prefix_in q) prefixes k at).1) ∙ take-append-drop (cut q) q
+key_parts : (own prefix : Option ℕ) (key : Key) → key_by own prefix ≡ Some key → (own ≡ Some key.1) × (prefix ≡ Some key.0)
+key_parts None prefix key h = absurd cc
+key_parts (Some o) None key h = absurd cc
+key_parts (Some o) (Some p) key h =
+    (ap (λ (k : Option Key). option_map (λ z. z.1) k) h, ap (λ (k : Option Key). option_map (λ z. z.0) k) h)
 
-key_new : (prefixes : List (List ℕ)) (q : List ℕ) (k : ℕ) → number_of (prefix_in q) prefixes ≡ Some k → IsKey prefixes (k, own_in q)
-key_new prefixes q k at =
-    let full = full_new prefixes q k at in
-    record { number = ap (λ z. number_of (prefix_in z) prefixes) full ∙ at; own = ap own_in full }
+-- the full name of its key is the name
+full_is : (q : List ℕ) (parts : Parts) (key : Key) → key_of q parts ≡ Some key → full_of parts key ≡ q
+full_is q parts key at =
+    let numbers = key_parts (number_of (own_in q) parts.owns) (number_of (prefix_in q) parts.prefixes) key at in
+    ap (λ z. z ++ get_or parts.owns key.1 []) (sym (numbered_is (prefix_in q) parts.prefixes key.0 numbers.1).1)
+    ∙ ap (λ z. prefix_in q ++ z) (sym (numbered_is (own_in q) parts.owns key.1 numbers.0).1)
+    ∙ take-append-drop (cut q) q
+
+-- parts of which more may come
+pub record Extends (old new : Parts) : Type 0 where
+  pub prefixes : new.prefixes ≡ old.prefixes ++ drop (length old.prefixes) new.prefixes
+  pub owns : new.owns ≡ old.owns ++ drop (length old.owns) new.owns
+
+number_more : (text : List ℕ) (old new : List (List ℕ)) (k : ℕ) → new ≡ old ++ drop (length old) new
+    → number_of text old ≡ Some k → number_of text new ≡ Some k
+number_more text old new k more at =
+    ap (number_of text) more ∙ position_more (bytes_eq text) k old (drop (length old) new) at
+
+-- a name keeps its key
+key_more : (q : List ℕ) (old new : Parts) (key : Key) → Extends old new → key_of q old ≡ Some key → key_of q new ≡ Some key
+key_more q old new key more at =
+    let numbers = key_parts (number_of (own_in q) old.owns) (number_of (prefix_in q) old.prefixes) key at in
+    ap (λ z. key_by z (number_of (prefix_in q) new.prefixes)) (number_more (own_in q) old.owns new.owns key.1 more.owns numbers.0)
+    ∙ ap (key_by (Some key.1)) (number_more (prefix_in q) old.prefixes new.prefixes key.0 more.prefixes numbers.1)
+
+-- the key of a name whose parts have these numbers
+pub key_made : (q : List ℕ) (parts : Parts) (own prefix : List ℕ) (o p : Option ℕ) (key : Option Key)
+    → prefix ≡ prefix_in q → own ≡ own_in q → o ≡ number_of own parts.owns → p ≡ number_of prefix parts.prefixes
+    → key ≡ key_by o p → key ≡ key_of q parts
+key_made q parts own prefix o p key is rest at before made =
+    made ∙ ap (λ z. key_by z p) (at ∙ ap (λ z. number_of z parts.owns) rest)
+    ∙ ap (key_by (number_of (own_in q) parts.owns)) (before ∙ ap (λ z. number_of z parts.prefixes) is)
+
+-- a name whose own part is not there has no key
+pub key_none : (q : List ℕ) (parts : Parts) (own : List ℕ) → own ≡ own_in q → None ≡ number_of own parts.owns → None ≡ key_of q parts
+key_none q parts own rest none =
+    ap (λ z. key_by z (number_of (prefix_in q) parts.prefixes)) (none ∙ ap (λ z. number_of z parts.owns) rest)
+
+-- parts with those of a name
+pub key_put : (q prefix own : List ℕ) (prefixes owns prefixes' owns' : List (List ℕ)) (p o : ℕ)
+    → prefix ≡ prefix_in q → own ≡ own_in q → Puts prefix prefixes prefixes' p → Puts own owns owns' o
+    → PutsKey q (record { prefixes = prefixes; owns = owns }) (record { prefixes = prefixes'; owns = owns' }) (p, o)
+key_put q prefix own prefixes owns prefixes' owns' p o is rest front back = record {
+  prefixes = front.more;
+  owns = back.more;
+  at =
+      ap (λ z. key_by z (number_of (prefix_in q) prefixes')) (ap (λ z. number_of z owns') (sym rest) ∙ back.number)
+      ∙ ap (key_by (Some o)) (ap (λ z. number_of z prefixes') (sym is) ∙ front.number);
+}
+
+nothing_more : (xs : List (List ℕ)) → xs ≡ xs ++ drop (length xs) xs
+nothing_more [] = refl
+nothing_more (x ∷ xs) = ap (λ z. x ∷ z) (nothing_more xs)
+
+-- parts of which one name has the key already
+pub key_kept : (q : List ℕ) (parts : Parts) (key : Key) → key_of q parts ≡ Some key → PutsKey q parts parts key
+key_kept q parts key is = record { prefixes = nothing_more parts.prefixes; owns = nothing_more parts.owns; at = is }
+
+extends : (q : List ℕ) (old new : Parts) (key : Key) → PutsKey q old new key → Extends old new
+extends q old new key puts = record { prefixes = puts.prefixes; owns = puts.owns }
 
 -- a full name is that of a key where the key is that of the name
-test_same : (prefixes : List (List ℕ)) (q : List ℕ) (k : ℕ) (key : Key) → number_of (prefix_in q) prefixes ≡ Some k
-    → IsKey prefixes key → bytes_eq q (full_of prefixes key) ≡ same_key (k, own_in q) key
-test_same prefixes q k key at is =
-    let full = full_of prefixes key in
-    one_answer (bytes_eq q full) (same_key (k, own_in q) key) (bytes_eq-Decides q full) (
+test_same : (parts : Parts) (q : List ℕ) (k key : Key) → key_of q parts ≡ Some k → IsKey parts key
+    → bytes_eq q (full_of parts key) ≡ same_key k key
+test_same parts q k key at is =
+    let full = full_of parts key in
+    one_answer (bytes_eq q full) (same_key k key) (bytes_eq-Decides q full) (
       λ t.
-          let parts = and_parts (k == key.0) (bytes_eq (own_in q) key.1) t in
-          sym (full_new prefixes q k at) ∙ ap (λ z. get_or prefixes z [] ++ own_in q) ((Decides-eqb k key.0).0 parts.0)
-          ∙ ap (λ z. get_or prefixes key.0 [] ++ z) (same_bytes (own_in q) key.1 parts.1),
-      λ e. and_from (k == key.0) (bytes_eq (own_in q) key.1)
-          ((Decides-eqb k key.0).1
-          (some_same k key.0 (sym at ∙ ap (λ z. number_of (prefix_in z) prefixes) e ∙ is.number)))
-          ((bytes_eq-Decides (own_in q) key.1).1 (ap own_in e ∙ is.own)),
+          let both = and_parts (k.0 == key.0) (k.1 == key.1) t in
+          sym (full_is q parts k at)
+          ∙ ap (λ z. get_or parts.prefixes z [] ++ get_or parts.owns k.1 []) ((Decides-eqb k.0 key.0).0 both.0)
+          ∙ ap (λ z. get_or parts.prefixes key.0 [] ++ get_or parts.owns z []) ((Decides-eqb k.1 key.1).0 both.1),
+      λ e.
+          let same : Some k ≡ Some key = sym at ∙ ap (λ z. key_of z parts) e ∙ is in
+          and_from (k.0 == key.0) (k.1 == key.1)
+          ((Decides-eqb k.0 key.0).1 (some_same k.0 key.0 (ap (λ (z : Option Key). option_map (λ y. y.0) z) same)))
+          ((Decides-eqb k.1 key.1).1 (some_same k.1 key.1 (ap (λ (z : Option Key). option_map (λ y. y.1) z) same))),
     )
 
-absent_same : (prefixes : List (List ℕ)) (q : List ℕ) (key : Key) → number_of (prefix_in q) prefixes ≡ None
-    → IsKey prefixes key → bytes_eq q (full_of prefixes key) ≡ false
-absent_same prefixes q key none is =
-    let full = full_of prefixes key in
+none_key : (key : Key) → None ≡ Some key → ⊥
+none_key key h = absurd cc
+
+absent_same : (parts : Parts) (q : List ℕ) (key : Key) → key_of q parts ≡ None → IsKey parts key
+    → bytes_eq q (full_of parts key) ≡ false
+absent_same parts q key none is =
+    let full = full_of parts key in
     false_from_ne_true (bytes_eq q full)
-    (λ t. none_some key.0 (sym none ∙ ap (λ z. number_of (prefix_in z) prefixes) (same_bytes q full t) ∙ is.number))
+    (λ t. none_key key (sym none ∙ ap (λ z. key_of z parts) (same_bytes q full t) ∙ is))
+
+full_more : (old new : Parts) (key : Key) → Extends old new → IsKey old key → full_of new key ≡ full_of old key
+full_more old new key more is = full_is (full_of old key) new key (key_more (full_of old key) old new key more is)
+
+is_more : (old new : Parts) (key : Key) → Extends old new → IsKey old key → IsKey new key
+is_more old new key more is =
+    ap (λ z. key_of z new) (full_more old new key more is) ∙ key_more (full_of old key) old new key more is
+
+is_new : (q : List ℕ) (new : Parts) (key : Key) → key_of q new ≡ Some key → IsKey new key
+is_new q new key at = ap (λ z. key_of z new) (full_is q new key at) ∙ at
 
 module _ {M : Type 0} where
   -- what a name stands for is held by its key
-  held_is : (prefixes : List (List ℕ)) (q : List ℕ) (k : ℕ) (es : List (Key × M)) → number_of (prefix_in q) prefixes ≡ Some k
-      → AllKeys prefixes es → held_at k (own_in q) es ≡ meaning_of q (by_names prefixes es)
-  held_is prefixes q k [] at all = refl
-  held_is prefixes q k (e ∷ es) at all =
-      ap (λ b. cond b (Some e.1) (held_at k (own_in q) es)) (sym (test_same prefixes q k e.0 at all.0))
-      ∙ ap (λ z. cond (bytes_eq q (full_of prefixes e.0)) (Some e.1) z) (held_is prefixes q k es at all.1)
+  pub held_is : (parts : Parts) (q : List ℕ) (key : Key) (es : List (Key × M)) → key_of q parts ≡ Some key → AllKeys parts es
+      → held_at key es ≡ meaning_of q (by_names parts es)
+  held_is parts q key [] at all = refl
+  held_is parts q key (e ∷ es) at all =
+      ap (λ b. cond b (Some e.1) (held_at key es)) (sym (test_same parts q key e.0 at all.0))
+      ∙ ap (λ z. cond (bytes_eq q (full_of parts e.0)) (Some e.1) z) (held_is parts q key es at all.1)
 
-  -- a name whose prefix is not there stands for nothing
-  none_is : (prefixes : List (List ℕ)) (q : List ℕ) (es : List (Key × M)) → number_of (prefix_in q) prefixes ≡ None
-      → AllKeys prefixes es → meaning_of q (by_names prefixes es) ≡ None
-  none_is prefixes q [] none all = refl
-  none_is prefixes q (e ∷ es) none all =
-      ap (λ b. cond b (Some e.1) (meaning_of q (by_names prefixes es))) (absent_same prefixes q e.0 none all.0)
-      ∙ none_is prefixes q es none all.1
+  -- a name that has no key stands for nothing
+  pub none_is : (parts : Parts) (q : List ℕ) (es : List (Key × M)) → key_of q parts ≡ None → AllKeys parts es
+      → meaning_of q (by_names parts es) ≡ None
+  none_is parts q [] none all = refl
+  none_is parts q (e ∷ es) none all =
+      ap (λ b. cond b (Some e.1) (meaning_of q (by_names parts es))) (absent_same parts q e.0 none all.0)
+      ∙ none_is parts q es none all.1
 
--- ---- more prefixes
-
-get_left : (xs ys : List (List ℕ)) (k : ℕ) → k < length xs → get_or (xs ++ ys) k [] ≡ get_or xs k []
-get_left [] ys k h = absurd (omega (arith, h))
-get_left (x ∷ xs) ys zero h = refl
-get_left (x ∷ xs) ys (suc k) h = get_left xs ys k (omega (arith, h))
-
-full_more : (prefixes ys : List (List ℕ)) (key : Key) → IsKey prefixes key → full_of (prefixes ++ ys) key ≡ full_of prefixes key
-full_more prefixes ys key is =
-    let within = (numbered_is (prefix_in (full_of prefixes key)) prefixes key.0 is.number).0 in
-    ap (λ z. z ++ key.1) (get_left prefixes ys key.0 within)
-
-key_more : (prefixes ys : List (List ℕ)) (key : Key) → IsKey prefixes key → IsKey (prefixes ++ ys) key
-key_more prefixes ys key is =
-    let same = full_more prefixes ys key is in
-    let prefix = prefix_in (full_of prefixes key) in
-    record {
-      number =
-          ap (λ z. number_of (prefix_in z) (prefixes ++ ys)) same ∙ position_more (bytes_eq prefix) key.0 prefixes ys is.number;
-      own = ap own_in same ∙ is.own;
-    }
-
-module _ {M : Type 0} where
-  all_more : (prefixes ys : List (List ℕ)) (es : List (Key × M)) → AllKeys prefixes es → AllKeys (prefixes ++ ys) es
-  all_more prefixes ys [] all = tt
-  all_more prefixes ys (e ∷ es) all = (key_more prefixes ys e.0 all.0, all_more prefixes ys es all.1)
+  all_more : (old new : Parts) (es : List (Key × M)) → Extends old new → AllKeys old es → AllKeys new es
+  all_more old new [] more all = tt
+  all_more old new (e ∷ es) more all = (is_more old new e.0 more all.0, all_more old new es more all.1)
 
   abbrev named : List ℕ → M → List ℕ × M
   named full m = (full, m)
 
-  names_more : (prefixes ys : List (List ℕ)) (es : List (Key × M)) → AllKeys prefixes es
-      → by_names (prefixes ++ ys) es ≡ by_names prefixes es
-  names_more prefixes ys [] all = refl
-  names_more prefixes ys (e ∷ es) all =
-      ap (λ z. named z e.1 ∷ by_names (prefixes ++ ys) es) (full_more prefixes ys e.0 all.0)
-      ∙ ap (λ z. named (full_of prefixes e.0) e.1 ∷ z) (names_more prefixes ys es all.1)
+  names_more : (old new : Parts) (es : List (Key × M)) → Extends old new → AllKeys old es → by_names new es ≡ by_names old es
+  names_more old new [] more all = refl
+  names_more old new (e ∷ es) more all =
+      ap (λ z. named z e.1 ∷ by_names new es) (full_more old new e.0 more all.0)
+      ∙ ap (λ z. named (full_of old e.0) e.1 ∷ z) (names_more old new es more all.1)
 
-  all_push : (prefixes : List (List ℕ)) (es : List (Key × M)) (key : Key) (m : M) → AllKeys prefixes es → IsKey prefixes key
-      → AllKeys prefixes (es ++ (key, m) ∷ [])
-  all_push prefixes [] key m all is = (is, tt)
-  all_push prefixes (e ∷ es) key m all is = (all.0, all_push prefixes es key m all.1 is)
+  insert_by : (b : Bool) (key : Key) (m : M) (e : Key × M) (es rest : List (Key × M)) (parts : Parts) (other : List (List ℕ × M))
+      → by_names parts rest ≡ other
+      → by_names parts (if b then (e.0, m) ∷ es else e ∷ rest)
+      ≡ (if b then (full_of parts e.0, m) ∷ by_names parts es else (full_of parts e.0, e.1) ∷ other)
+  insert_by true key m e es rest parts other h = refl
+  insert_by false key m e es rest parts other h = ap (λ z. named (full_of parts e.0) e.1 ∷ z) h
 
-  all_put : (p : List ℕ) (old new : List (List ℕ)) (k : ℕ) (es : List (Key × M)) → Puts p old new k → AllKeys old es → AllKeys new es
-  all_put p old new k es puts all = subst (λ z. AllKeys z es) (sym puts.more) (all_more old (drop (length old) new) es all)
+  -- names once something is held by a key
+  pub names_set : (parts : Parts) (q : List ℕ) (key : Key) (m : M) (es : List (Key × M)) → key_of q parts ≡ Some key → AllKeys parts es
+      → by_names parts (insert_entry same_key es key m) ≡ put q m (by_names parts es)
+  names_set parts q key m [] at all = ap (λ z. named z m ∷ []) (full_is q parts key at)
+  names_set parts q key m (e ∷ es) at all =
+      insert_by (same_key key e.0) key m e es (insert_entry same_key es key m) parts (put q m (by_names parts es))
+      (names_set parts q key m es at all.1)
+      ∙ ap (λ b. if b then named (full_of parts e.0) m ∷ by_names parts es else named (full_of parts e.0) e.1 ∷ put q m (by_names parts es))
+      (sym (test_same parts q key e.0 at all.0))
 
-  names_put : (p : List ℕ) (old new : List (List ℕ)) (k : ℕ) (es : List (Key × M)) → Puts p old new k → AllKeys old es
-      → by_names new es ≡ by_names old es
-  names_put p old new k es puts all = ap (λ z. by_names z es) puts.more ∙ names_more old (drop (length old) new) es all
+  keys_by : (b : Bool) (key : Key) (m : M) (e : Key × M) (es rest : List (Key × M)) (parts : Parts)
+      → AllKeys parts (e ∷ es) → AllKeys parts rest → AllKeys parts (if b then (e.0, m) ∷ es else e ∷ rest)
+  keys_by true key m e es rest parts all more = (all.0, all.1)
+  keys_by false key m e es rest parts all more = (all.0, more)
+
+  -- keys once something is held by one more
+  pub keys_set : (parts : Parts) (q : List ℕ) (key : Key) (m : M) (es : List (Key × M)) → key_of q parts ≡ Some key → AllKeys parts es
+      → AllKeys parts (insert_entry same_key es key m)
+  keys_set parts q key m [] at all = (is_new q parts key at, tt)
+  keys_set parts q key m (e ∷ es) at all =
+      keys_by (same_key key e.0) key m e es (insert_entry same_key es key m) parts all (keys_set parts q key m es at all.1)
+
+  put_by : (b : Bool) (q : List ℕ) (m : M) (e : List ℕ × M) (es rest : List (List ℕ × M)) → (b || is_declared q es) ≡ false
+      → (is_declared q es ≡ false → rest ≡ es ++ (q, m) ∷ [])
+      → (if b then (e.0, m) ∷ es else e ∷ rest) ≡ e ∷ (es ++ (q, m) ∷ [])
+  put_by true q m e es rest h f = absurd cc
+  put_by false q m e es rest h f = ap (λ z. e ∷ z) (f h)
+
+  -- a name that is not declared is put after the others
+  pub put_last : (q : List ℕ) (m : M) (es : List (List ℕ × M)) → is_declared q es ≡ false → put q m es ≡ es ++ (q, m) ∷ []
+  put_last q m [] h = refl
+  put_last q m (e ∷ es) h = put_by (bytes_eq q e.0) q m e es (put q m es) h (put_last q m es)
 
   pub declared_is : (q : List ℕ) (es : List (List ℕ × M)) → is_some (meaning_of q es) ≡ is_declared q es
   declared_is q [] = refl
@@ -297,95 +335,78 @@ module _ {M : Type 0} where
     some_either true m o = refl
     some_either false m o = refl
 
-  undeclared : (o : Option M) → is_some o ≡ false → o ≡ None
-  undeclared None h = refl
-  undeclared (Some m) h = absurd cc
+-- ---- one more name in a scope
 
-  -- the key of a name that is not declared holds nothing
-  pub fresh : (q prefix own : List ℕ) (old new : List (List ℕ)) (k : ℕ) (es : List (Key × M)) (view : List (List ℕ × M))
-      → prefix ≡ prefix_in q → own ≡ own_in q → Puts prefix old new k → AllKeys old es → by_names old es ≡ view
-      → is_declared q view ≡ false → held_at k own es ≡ None
-  fresh q prefix own old new k es view is rest puts all seen none =
-      let number : number_of (prefix_in q) new ≡ Some k = ap (λ z. number_of z new) (sym is) ∙ puts.number in
-      ap (λ z. held_at k z es) rest ∙ held_is new q k es number (all_put prefix old new k es puts all)
-      ∙ ap (meaning_of q) (names_put prefix old new k es puts all ∙ seen)
-      ∙ undeclared (meaning_of q view) (declared_is q view ∙ none)
+clash_by : (a b : Bool) → (if a then Some Twice else if b then Some CaseClash else None) ≡ None → (a ≡ false) × (b ≡ false)
+clash_by true b h = absurd cc
+clash_by false true h = absurd cc
+clash_by false false h = (refl, refl)
 
-  -- keys with that of one more name
-  pub all_extended : (q prefix own : List ℕ) (old new : List (List ℕ)) (k : ℕ) (es es' : List (Key × M)) (m : M)
-      → prefix ≡ prefix_in q → own ≡ own_in q → Puts prefix old new k → AllKeys old es → es' ≡ es ++ ((k, own), m) ∷ []
-      → AllKeys new es'
-  all_extended q prefix own old new k es es' m is rest puts all made =
-      let number : number_of (prefix_in q) new ≡ Some k = ap (λ z. number_of z new) (sym is) ∙ puts.number in
-      subst (λ z. AllKeys new z) (sym (made ∙ ap (λ z. es ++ ((k, z), m) ∷ []) rest))
-      (all_push new es (k, own_in q) m (all_put prefix old new k es puts all) (key_new new q k number))
+-- names with one more by its key, which none of them has
+held_next : {M : Type 0} (q : List ℕ) (old new : Parts) (key : Key) (m : M) (es held : List (Key × M))
+    → by_names new es ≡ by_names old es → AllKeys new es → key_of q new ≡ Some key → held ≡ insert_entry same_key es key m
+    → is_declared q (by_names old es) ≡ false → by_names new held ≡ by_names old es ++ (q, m) ∷ []
+held_next q old new key m es held same all at made none =
+    ap (by_names new) made ∙ names_set new q key m es at all ∙ ap (put q m) same ∙ put_last q m (by_names old es) none
 
-  -- names with one more
-  pub names_extended : (q prefix own : List ℕ) (old new : List (List ℕ)) (k : ℕ) (es es' : List (Key × M)) (m : M)
-      (view : List (List ℕ × M)) → prefix ≡ prefix_in q → own ≡ own_in q → Puts prefix old new k → AllKeys old es
-      → es' ≡ es ++ ((k, own), m) ∷ [] → by_names old es ≡ view → by_names new es' ≡ view ++ (q, m) ∷ []
-  names_extended q prefix own old new k es es' m view is rest puts all made seen =
-      let number : number_of (prefix_in q) new ≡ Some k = ap (λ z. number_of z new) (sym is) ∙ puts.number in
-      let key : Key = (k, own_in q) in
-      ap (by_names new) (made ∙ ap (λ z. es ++ ((k, z), m) ∷ []) rest)
-      ∙ append_map (λ (e : Key × M). named (full_of new e.0) e.1) es (key, m)
-      ∙ ap (λ z. z ++ named (full_of new key) m ∷ []) (names_put prefix old new k es puts all ∙ seen)
-      ∙ ap (λ z. view ++ named z m ∷ []) (full_new new q k number)
+more_both : (old mid new : List (List ℕ)) → mid ≡ old ++ drop (length old) mid → new ≡ mid ++ drop (length mid) new
+    → new ≡ old ++ drop (length old) new
+more_both old mid new first next =
+    let rest = drop (length old) mid ++ drop (length mid) new in
+    let whole : new ≡ old ++ rest =
+    next ∙ ap (λ z. z ++ drop (length mid) new) first ∙ append_assoc old (drop (length old) mid) (drop (length mid) new) in
+    whole ∙ ap (λ z. old ++ z) (sym (after_all old rest) ∙ ap (drop (length old)) (sym whole))
 
-  -- what is answered where the prefix of a name has a number
-  pub meaning_held : {E : Type 0} (q prefix own : List ℕ) (prefixes : List (List ℕ)) (k : ℕ) (es : List (Key × M))
-      (view : List (List ℕ × M)) (result : Result (Option M) E) → prefix ≡ prefix_in q → own ≡ own_in q
-      → Some k ≡ number_of prefix prefixes → AllKeys prefixes es → by_names prefixes es ≡ view
-      → IfOk result (λ o. o ≡ held_at k own es) → IfOk result (λ o. o ≡ meaning_of q view)
-  meaning_held q prefix own prefixes k es view (Err e) is rest at all seen h = tt
-  meaning_held q prefix own prefixes k es view (Ok o) is rest at all seen h =
-      h ∙ ap (λ z. held_at k z es) rest
-      ∙ held_is prefixes q k es (ap (λ z. number_of z prefixes) (sym is) ∙ sym at) all ∙ ap (meaning_of q) seen
+-- the parts of a name are put in, and then those of another
+pub both_put : (full other : List ℕ) (old mid new : Parts) (key below : Key) → PutsKey full old mid key → PutsKey other mid new below
+    → PutsBoth full other old new key below
+both_put full other old mid new key below puts more = record {
+  prefixes = more_both old.prefixes mid.prefixes new.prefixes puts.prefixes more.prefixes;
+  owns = more_both old.owns mid.owns new.owns puts.owns more.owns;
+  at_full = key_more full mid new key (extends other mid new below more) puts.at;
+  at_other = more.at;
+}
 
-  -- what is answered where the prefix of a name is not there
-  pub meaning_none : (q prefix : List ℕ) (prefixes : List (List ℕ)) (es : List (Key × M)) (view : List (List ℕ × M))
-      → prefix ≡ prefix_in q → None ≡ number_of prefix prefixes → AllKeys prefixes es → by_names prefixes es ≡ view
-      → None ≡ meaning_of q view
-  meaning_none q prefix prefixes es view is none all seen =
-      sym (ap (meaning_of q) (sym seen) ∙ none_is prefixes q es (ap (λ z. number_of z prefixes) (sym is) ∙ sym none) all)
+-- what a scope's names are once the parts of a name are put in, and those of the name in lower case
+module _ (scope name other : List ℕ) (old new : Parts) (key below : Key)
+    (puts : PutsBoth (scope ++ name) (scope ++ other) old new key below) where
+  extended : Extends old new
+  extended = record { prefixes = puts.prefixes; owns = puts.owns }
 
--- ---- what keys hold
+  pub keys_next : (m : Meaning) (table table' : List (Key × Meaning)) (folded folded' : List (Key × Unit {0}))
+      → AllKeys old table × AllKeys old folded
+      → table' ≡ insert_entry same_key table key m → folded' ≡ insert_entry same_key folded below tt
+      → AllKeys new table' × AllKeys new folded'
+  keys_next m table table' folded folded' all made made' = (
+    subst (AllKeys new) (sym made) (keys_set new (scope ++ name) key m table puts.at_full (all_more old new table extended all.0)),
+    subst (AllKeys new) (sym made') (keys_set new (scope ++ other) below tt folded puts.at_other (all_more old new folded extended all.1)),
+  )
 
-module _ {K M : Type 0} (items : K → List ℕ) where
-  abbrev held_of : List ((ℕ × K) × M) → List (Key × M)
-  held_of es = map (λ e. ((e.0.0, items e.0.1), e.1)) es
-
-  -- what a map holds at a key
-  pub map_held : (number : ℕ) (key : K) (own : List ℕ) (es : List ((ℕ × K) × M)) (view : List (Key × M))
-      → items key ≡ own → held_of es ≡ view
-      → lookup (λ b. number == b.0 && bytes_eq (items key) (items b.1)) es ≡ held_at number own view
-  map_held number key own es view is seen =
-      at es ∙ ap (λ z. held_at number z (held_of es)) is ∙ ap (held_at number own) seen where
-        at : (xs : List ((ℕ × K) × M))
-            → lookup (λ b. number == b.0 && bytes_eq (items key) (items b.1)) xs ≡ held_at number (items key) (held_of xs)
-        at [] = refl
-        at (x ∷ xs) = ap (λ z. cond (number == x.0.0 && bytes_eq (items key) (items x.0.1)) (Some x.1) z) (at xs)
-
-  some_none : (b : Bool) (m : M) (o : Option M) → cond b (Some m) o ≡ None → (b ≡ false) × (o ≡ None)
-  some_none true m o h = absurd cc
-  some_none false m o h = (refl, h)
-
-  put_at : (number : ℕ) (key : K) (m : M) (es : List ((ℕ × K) × M)) → held_at number (items key) (held_of es) ≡ None
-      → held_of (insert_entry (λ a b. a.0 == b.0 && bytes_eq (items a.1) (items b.1)) es (number, key) m)
-      ≡ held_of es ++ ((number, items key), m) ∷ []
-  put_at number key m [] h = refl
-  put_at number key m (e ∷ es) h =
-      let parts =
-      some_none (number == e.0.0 && bytes_eq (items key) (items e.0.1)) e.1 (held_at number (items key) (held_of es)) h in
-      rw parts.0 (ap (λ z. ((e.0.0, items e.0.1), e.1) ∷ z) (put_at number key m es parts.1))
-
-  -- what a map has once something is put at a key that held nothing
-  pub map_put : (number : ℕ) (key : K) (own : List ℕ) (m : M) (es new : List ((ℕ × K) × M)) (view : List (Key × M))
-      → new ≡ insert_entry (λ a b. a.0 == b.0 && bytes_eq (items a.1) (items b.1)) es (number, key) m
-      → items key ≡ own → held_of es ≡ view → held_at number own view ≡ None
-      → held_of new ≡ view ++ ((number, own), m) ∷ []
-  map_put number key own m es new view made is seen none =
-      let none' : held_at number (items key) (held_of es) ≡ None =
-      ap (λ z. held_at number z (held_of es)) is ∙ ap (held_at number own) seen ∙ none in
-      ap held_of made ∙ put_at number key m es none' ∙ ap (λ z. z ++ ((number, items key), m) ∷ []) seen
-      ∙ ap (λ z. view ++ ((number, z), m) ∷ []) is
+  pub names_next : (m : Meaning) (table table' : List (Key × Meaning)) (folded folded' : List (Key × Unit {0}))
+      (lines : List (List ℕ × List (List ℕ))) (s : Names)
+      → AllKeys old table × AllKeys old folded
+      → table' ≡ insert_entry same_key table key m → folded' ≡ insert_entry same_key folded below tt
+      → record { meanings = by_names old table; folded = map (λ e. e.0) (by_names old folded); lines = lines } ≡ s
+      → clash s scope name ≡ None → other ≡ lower name
+      → record { meanings = by_names new table'; folded = map (λ e. e.0) (by_names new folded'); lines = lines } ≡ declared scope name m s
+  names_next m table table' folded folded' lines s all made made' view none small =
+      let was : Names = record { meanings = by_names old table; folded = map (λ e. e.0) (by_names old folded); lines = lines } in
+      let parts = clash_by (is_declared (scope ++ name) was.meanings) (has (scope ++ lower name) was.folded)
+      (ap (λ z. clash z scope name) view ∙ none) in
+      let meanings : by_names new table' ≡ by_names old table ++ (scope ++ name, m) ∷ [] =
+      held_next (scope ++ name) old new key m table table' (names_more old new table extended all.0)
+      (all_more old new table extended all.0) puts.at_full made parts.0 in
+      let fresh : is_declared (scope ++ other) (by_names old folded) ≡ false =
+      ap (λ z. has (scope ++ z) was.folded) small ∙ parts.1 in
+      let names : by_names new folded' ≡ by_names old folded ++ (scope ++ other, tt) ∷ [] =
+      held_next (scope ++ other) old new below tt folded folded' (names_more old new folded extended all.1)
+      (all_more old new folded extended all.1) puts.at_other made' fresh in
+      let small' : map (λ e. e.0) (by_names new folded') ≡ was.folded ++ (scope ++ lower name) ∷ [] =
+      ap (map (λ (e : List ℕ × Unit {0}). e.0)) names
+      ∙ append_map (λ (e : List ℕ × Unit {0}). e.0) (by_names old folded) (scope ++ other, tt)
+      ∙ ap (λ z. was.folded ++ (scope ++ z) ∷ []) small in
+      ap (λ z. now z (map (λ e. e.0) (by_names new folded'))) meanings
+      ∙ ap (now (by_names old table ++ (scope ++ name, m) ∷ [])) small'
+      ∙ ap (declared scope name m) view where
+        now : List (List ℕ × Meaning) → List (List ℕ) → Names
+        now meanings folded = record { meanings = meanings; folded = folded; lines = lines }

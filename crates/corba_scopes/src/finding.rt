@@ -15,10 +15,9 @@ impl Scopes {
     fn at(&self, alloc: Global, scope: &[u8], name: &[u8]) -> Result<Option<Entry>, NoMemory>
         ensures { IfOk result (λ e. e ≡ entry_at self.now (scope.now ++ name.now)) }
     {
-        let full = full_name(alloc, scope, name)?;
-        match self.table().meaning(alloc, full.as_slice())? {
+        match self.meaning(alloc, scope, name)? {
             Some(meaning) => Ok(Some(Entry {
-                name: full,
+                name: full_name(alloc, scope, name)?,
                 meaning,
             })),
             None => Ok(None),

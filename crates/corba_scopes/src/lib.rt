@@ -6,11 +6,13 @@ mod around;
 mod clashes;
 mod consts;
 mod finding;
+mod held;
+mod keys;
 mod meanings;
 mod orders;
 mod prefixes;
-mod scoped;
 mod state;
+mod texts;
 
 pub use around::{Env, Scope, full_name, innermost, inside, named_in, of_file, prefix_of};
 pub use clashes::{lower_of, refuse_fault};

@@ -1,19 +1,23 @@
 //! The names of a file, and how one is declared.
 
-ghost use Rattle.std.specs.Prelude.{◌≡◌, None, IfOk, OnOk};
+ghost use Rattle.std.specs.Prelude.{◌≡◌, ◌++◌, None, IfOk, OnOk};
 ghost use Rattle.idl_names.specs.Answers.{Gives};
+ghost use Rattle.idl_names.specs.Names.{has, is_declared, meaning_of};
 ghost use Rattle.corba_scopes.specs.Names.{lower, nothing, clash, declared, declared_on, refused_by};
 ghost use Rattle.corba_scopes.specs.Finding.{with_base, with_line};
+ghost use Rattle.corba_scopes.specs.Parted.{same_key};
+ghost use Rattle.indexmap.specs.IndexMap.{insert_entry};
 
-use crate::around::full_name;
 use crate::clashes::refuse_fault;
+use crate::held::Held;
+use crate::keys::{Key, Keys};
 use crate::meanings::Meaning;
 use crate::orders::{BaseOrder, BaseOrders};
-use crate::scoped::Scoped;
 use aoi::{NameErr, NameFault};
 use kit_base::NoMemory;
 use std::alloc::Global;
 use std::marker::Model;
+use std::mem::replace;
 
 /// An identifier with its letters in lower case.
 fn lower(alloc: Global, name: &[u8]) -> Result<Vec<u8>, NoMemory>
@@ -22,25 +26,49 @@ fn lower(alloc: Global, name: &[u8]) -> Result<Vec<u8>, NoMemory>
     Ok(name.to_ascii_lowercase(alloc)?)
 }
 
+/// Puts what a name stands for by its key, and the name in lower case by its own.
+fn put_both(
+    table: &mut Held<Meaning>,
+    folded: &mut Held<()>,
+    key: Key,
+    below: Key,
+    meaning: Meaning,
+) -> Result<(), NoMemory>
+    ensures table { OnOk result (table.new ≡ insert_entry same_key table.old key meaning) }
+    ensures folded { OnOk result (folded.new ≡ insert_entry same_key folded.old below tt) }
+{
+    table.put(key, meaning)?;
+    folded.put(below, ())
+}
+
 /// The names that a file has declared, each in its scope.
 #[derive(Drop)]
 pub struct Scopes {
-    /// Full names, each with what it stands for.
-    table: Scoped<Meaning>,
+    /// The keys of full names.
+    keys: Keys,
+    /// What each name stands for.
+    table: Held<Meaning>,
     /// The same names with the last identifier in lower case.
-    folded: Scoped<()>,
+    folded: Held<()>,
     /// The lines of interfaces.
     lines: BaseOrders,
 }
 
 impl Model for Scopes {
     ghost use Rattle.corba_scopes.specs.Names.{Names};
+    ghost use Rattle.corba_scopes.specs.Parted.{by_names, AllKeys};
     ghost use Rattle.std.specs.Prelude.{map};
     ghost use Rattle.std.specs.Coded.{codes};
 
     ghost Value = { Names };
 
-    ghost view = { λ s. record { meanings = s.table; folded = map (λ e. e.0) s.folded; lines = s.lines } };
+    ghost view = { λ s. record {
+      meanings = by_names s.keys s.table;
+      folded = map (λ e. e.0) (by_names s.keys s.folded);
+      lines = s.lines;
+    } };
+
+    ghost invariant = { λ s. AllKeys s.keys s.table × AllKeys s.keys s.folded };
 }
 
 impl Scopes {
@@ -49,17 +77,43 @@ impl Scopes {
         ensures { result ≡ nothing }
     {
         Scopes {
-            table: Scoped::new(alloc),
-            folded: Scoped::new(alloc),
+            keys: Keys::new(alloc),
+            table: Held::new(alloc),
+            folded: Held::new(alloc),
             lines: BaseOrders::new(alloc),
         }
     }
 
-    /// The names with what they stand for.
-    pub(crate) fn table(&self) -> &Scoped<Meaning>
-        ensures { result.now ≡ self.now.meanings }
+    /// What a name of a scope stands for, if it is declared.
+    pub(crate) fn meaning(
+        &self,
+        alloc: Global,
+        scope: &[u8],
+        name: &[u8],
+    ) -> Result<Option<Meaning>, NoMemory>
+        ensures { IfOk result (λ m. m ≡ meaning_of (scope.now ++ name.now) self.now.meanings) }
     {
-        &self.table
+        match self.keys.key(alloc, scope, name)? {
+            Some(key) => Ok(self.table.at(key)),
+            None => Ok(None),
+        }
+    }
+
+    /// Whether a name of a scope is declared.
+    fn has(&self, alloc: Global, scope: &[u8], name: &[u8]) -> Result<bool, NoMemory>
+        ensures { IfOk result (λ b. b ≡ is_declared (scope.now ++ name.now) self.now.meanings) }
+    {
+        Ok(self.meaning(alloc, scope, name)?.is_some())
+    }
+
+    /// Whether a name of a scope is declared, in lower case.
+    fn has_small(&self, alloc: Global, scope: &[u8], small: &[u8]) -> Result<bool, NoMemory>
+        ensures { IfOk result (λ b. b ≡ has (scope.now ++ small.now) self.now.folded) }
+    {
+        match self.keys.key(alloc, scope, small)? {
+            Some(key) => Ok(self.folded.at(key).is_some()),
+            None => Ok(false),
+        }
     }
 
     /// The lines of interfaces.
@@ -78,12 +132,10 @@ impl Scopes {
     ) -> Result<Option<NameFault>, NoMemory>
         ensures { IfOk result (λ fault. fault ≡ clash self.now scope.now name.now) }
     {
-        let full = full_name(alloc, scope, name)?;
-        if self.table.has(alloc, full.as_slice())? {
+        if self.has(alloc, scope, name)? {
             return Ok(Some(NameFault::Twice));
         }
-        let small = full_name(alloc, scope, lower(alloc, name)?.as_slice())?;
-        if self.folded.has(alloc, small.as_slice())? {
+        if self.has_small(alloc, scope, lower(alloc, name)?.as_slice())? {
             return Ok(Some(NameFault::CaseClash));
         }
         Ok(None)
@@ -103,7 +155,39 @@ impl Scopes {
         refuse_fault(decl, fault)
     }
 
-    /// Declares a name that clashes with none.
+    /// These, with a name that clashes with none of them.
+    fn extended(
+        self,
+        alloc: Global,
+        scope: &[u8],
+        name: &[u8],
+        meaning: Meaning,
+    ) -> Result<Scopes, NoMemory>
+        requires { clash self scope.now name.now ≡ None }
+        ensures { IfOk result (λ s. s ≡ declared scope.now name.now meaning self) }
+    {
+        let small = lower(alloc, name)?;
+        let Scopes {
+            keys,
+            mut table,
+            mut folded,
+            lines,
+        } = self;
+        match keys.with_both(alloc, scope, name, small.as_slice()) {
+            Ok((keys, key, below)) => match put_both(&mut table, &mut folded, key, below, meaning) {
+                Ok(()) => Ok(Scopes {
+                    keys,
+                    table,
+                    folded,
+                    lines,
+                }),
+                Err(out) => Err(out),
+            },
+            Err(out) => Err(out),
+        }
+    }
+
+    /// Declares a name that clashes with none. Where that is out of memory, no name is left.
     pub fn declare(
         &mut self,
         alloc: Global,
@@ -114,10 +198,8 @@ impl Scopes {
         requires { clash self.old scope.now name.now ≡ None }
         ensures ok { OnOk result (self.new ≡ declared scope.now name.now meaning self.old) }
     {
-        let small = full_name(alloc, scope, lower(alloc, name)?.as_slice())?;
-        let full = full_name(alloc, scope, name)?;
-        self.table.declare(alloc, full.as_slice(), meaning)?;
-        self.folded.declare(alloc, small.as_slice(), ())?;
+        let held = replace(self, Scopes::new(alloc));
+        *self = held.extended(alloc, scope, name, meaning)?;
         Ok(())
     }
 

@@ -281,36 +281,33 @@ aliases_are d env f s out (x ∷ xs) is form h =
     let one = alias_is d env f s a.given x is form a.first in
     aliases_are d env f a.given out xs one.0 one.1 a.rest
 
+abbrev AliasedIs : State × Form → Type 0
+AliasedIs r = StateIs r.0 × FormIs (shapes_of r.0) r.0.labels r.1
+
+-- what gets a name is a type that is declared here
+next_is : (s made : State) (t : Tag) (r : State × Form) → (made, next_form s t) ≡ r → StateIs made
+    → UseIs (shapes_of made) made.labels (use_.Declared (length s.types) t) → AliasedIs r
+next_is s made t r e is used = subst AliasedIs e (is, record { core = used; rows = refl })
+
 aliased_is : (d : ℕ) (env : List (List ℕ)) (s : State) (of : Aliased) (r : State × Form) → StateIs s → is_whole_aliased of ≡ true
-    → aliased_on d env s of ≡ Ok r → StateIs r.0 × FormIs (shapes_of r.0) r.0.labels r.1
+    → aliased_on d env s of ≡ Ok r → AliasedIs r
 aliased_is d env s (A.Type t) r is whole h =
     let a = then_ok (type_form s.names env d t.0 t.1) _ r h in
     let made : State × Form = (s, a.given) in
-    subst
-    (λ (r : State × Form).
-    StateIs r.0 × FormIs (shapes_of r.0) r.0.labels r.1) (ok_same made r a.rest)
-    (is, form_is (shapes_of s) s.labels s.names env d t.0 t.1 a.given is.scope a.first)
+    subst AliasedIs (ok_same made r a.rest) (is, form_is (shapes_of s) s.labels s.names env d t.0 t.1 a.given is.scope a.first)
 aliased_is d env s (A.Struct t) r is whole h =
     let a = then_ok (struct_on d env s t) _ r h in
     let one = struct_is d env s a.given t is whole a.first in
-    let made : State × Form = (a.given, next_form s tag.Other) in
-    subst
-    (λ (r : State × Form).
-    StateIs r.0 × FormIs (shapes_of r.0) r.0.labels r.1) (ok_same made r a.rest) (one.is, record { core = one.used; rows = refl })
+    next_is s a.given tag.Other r (ok_same (a.given, next_form s tag.Other) r a.rest) one.is one.used
 aliased_is d env s (A.Union u) r is whole h =
     let a = then_ok (union_on d env s u) _ r h in
     let one = union_is d env s a.given u is a.first in
-    let made : State × Form = (a.given, next_form s tag.Other) in
-    subst
-    (λ (r : State × Form).
-    StateIs r.0 × FormIs (shapes_of r.0) r.0.labels r.1) (ok_same made r a.rest) (one.is, record { core = one.used; rows = refl })
+    next_is s a.given tag.Other r (ok_same (a.given, next_form s tag.Other) r a.rest) one.is one.used
 aliased_is d env s (A.Enum e) r is whole h =
     let a = then_ok (enum_on d env s e) _ r h in
     let one = enum_is d env s a.given e is whole a.first in
-    let made : State × Form = (a.given, next_form s (tag.Enum (length s.types))) in
-    subst
-    (λ (r : State × Form).
-    StateIs r.0 × FormIs (shapes_of r.0) r.0.labels r.1) (ok_same made r a.rest) (one.0, record { core = one.1; rows = refl })
+    let t = tag.Enum (length s.types) in
+    next_is s a.given t r (ok_same (a.given, next_form s t) r a.rest) one.0 one.1
 
 typedef_is : (d : ℕ) (env : List (List ℕ)) (s out : State) (t : Typedef) → StateIs s → is_whole_aliased t.of ≡ true → typedef_on d env s t
     ≡ Ok out → StateIs out
@@ -325,8 +322,16 @@ constant_means : (types : List Shape) (labels : List (ℕ × ℤ)) (v : Constant
 constant_means types labels (V.Number n) = tt
 constant_means types labels (V.Text n) = tt
 
-constant_is : (d : ℕ) (env : List (List ℕ)) (s out : State) (c : ConstantTree) → StateIs s → constant_on d env s c ≡ Ok out → StateIs out
-constant_is d env s out c is h =
+-- what a constant makes of a state: one more name, which stands for its value
+pub record ConstantIs (d : ℕ) (env : List (List ℕ)) (s out : State) (c : ConstantTree) : Type 0 where
+  pub value : Constant
+  pub names : Names
+  pub declared : declared_on d s.names (innermost env) c.name.name (meaning_of_constant value) ≡ Ok names
+  pub made : record s { names = names } ≡ out
+
+pub constant_ok : (d : ℕ) (env : List (List ℕ)) (s out : State) (c : ConstantTree) → constant_on d env s c ≡ Ok out
+    → ConstantIs d env s out c
+constant_ok d env s out c h =
     let name = c.name.name in
     let a = then_ok (constant_core s.names env d c.of) _ out h in
     let b = then_ok (refused NotType d (is_no_constant a.given)) _ out a.rest in
@@ -334,10 +339,16 @@ constant_is d env s out c is h =
     let f = then_ok (constant s.names env d c.value) _ out e.rest in
     let g = then_ok (refused Range d (not (fits s.labels a.given f.given))) _ out f.rest in
     let i = then_ok (declared_on d s.names (innermost env) name (meaning_of_constant f.given)) _ out g.rest in
-    let one = declared_ok d s.names (innermost env) name (meaning_of_constant f.given) i.given i.first in
-    subst StateIs (ok_same (record s { names = i.given }) out i.rest)
-    (names_is s i.given is (declared_is (shapes_of s) s.labels s.names (innermost env) name (meaning_of_constant f.given) i.given is.scope
-    (constant_means (shapes_of s) s.labels f.given) one))
+    record { value = f.given; names = i.given; declared = i.first; made = ok_same (record s { names = i.given }) out i.rest }
+
+constant_is : (d : ℕ) (env : List (List ℕ)) (s out : State) (c : ConstantTree) → StateIs s → constant_on d env s c ≡ Ok out → StateIs out
+constant_is d env s out c is h =
+    let name = c.name.name in
+    let i = constant_ok d env s out c h in
+    let m = meaning_of_constant i.value in
+    let one = declared_ok d s.names (innermost env) name m i.names i.declared in
+    subst StateIs i.made (names_is s i.names is (declared_is (shapes_of s) s.labels s.names (innermost env) name m i.names is.scope
+    (constant_means (shapes_of s) s.labels i.value) one))
 
 -- ---- declarations
 

@@ -116,6 +116,11 @@ rowed s (c ∷ cs) = rowed (array s c) cs
 abbrev pub form_shape : Form → List Count → Shape
 form_shape f ns = arrayed (rowed (core_shape f.core) f.rows) ns
 
+-- the lengths of an array that are kept, the outermost first
+abbrev pub lengths_of : Option (Count × List Count) → List Count
+lengths_of None = []
+lengths_of (Some k) = k.0 ∷ k.1
+
 -- a type with the lengths of an array is a row: a sequence or an array
 abbrev pub is_row : List Count → List Count → Bool
 is_row [] [] = false

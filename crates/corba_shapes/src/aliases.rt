@@ -9,12 +9,13 @@ ghost use Rattle.corba_shapes.specs.Aliases.{aliased_on, alias_on, aliases_on, t
 use crate::enums::enum_;
 use crate::fields::lengths;
 use crate::forms::{Core, Form, form_tag, form_text, form_ty, single, type_form};
+use crate::places::At;
 use crate::state::Shapes;
 use crate::structs::struct_;
 use crate::unions::union_;
 use aoi::NameErr;
 use corba_decls::{Aliased, Declarator, Typedef};
-use corba_scopes::{Scope, innermost};
+use corba_scopes::innermost;
 use idl_names::{Tag, Use};
 use std::alloc::Global;
 
@@ -26,28 +27,23 @@ fn declared_form(alloc: Global, k: u32, tag: Tag) -> Form
 }
 
 /// What gets a name: a type that is used, or one that is declared here.
-fn aliased(
-    alloc: Global,
-    r: &mut Shapes,
-    env: &[Scope],
-    d: u32,
-    of: &Aliased,
-) -> Result<Form, NameErr>
-    ensures { Gives (λ f. (state r.new, f)) result (aliased_on d env.now (state r.old) of.now) }
+fn aliased(alloc: Global, r: &mut Shapes, at: At, of: &Aliased) -> Result<Form, NameErr>
+    ensures { Gives (λ f. (state r.new, f)) result
+        (aliased_on at.entry.d at.entry.env.now (state r.old) of.now) }
 {
     let k = r.next_type()?;
     match of {
-        Aliased::Type(t) => type_form(alloc, &r.scopes, env, d, t),
+        Aliased::Type(t) => type_form(alloc, &r.scopes, at, t),
         Aliased::Struct(t) => {
-            struct_(alloc, r, env, d, t)?;
+            struct_(alloc, r, at, t)?;
             Ok(declared_form(alloc, k, Tag::Other))
         }
         Aliased::Union(u) => {
-            union_(alloc, r, env, d, u)?;
+            union_(alloc, r, at, u)?;
             Ok(declared_form(alloc, k, Tag::Other))
         }
         Aliased::Enum(e) => {
-            enum_(alloc, r, env, d, e)?;
+            enum_(alloc, r, at, e)?;
             Ok(declared_form(alloc, k, Tag::Enum(k)))
         }
     }
@@ -57,22 +53,21 @@ fn aliased(
 fn alias(
     alloc: Global,
     r: &mut Shapes,
-    env: &[Scope],
-    d: u32,
+    at: At,
     form: &Form,
     declarator: &Declarator,
 ) -> Result<(), NameErr>
-    ensures { Gives (λ _. state r.new) result (alias_on d env.now form.now (state r.old) declarator.now) }
+    ensures { Gives (λ _. state r.new) result
+        (alias_on at.entry.d at.entry.env.now form.now (state r.old) declarator.now) }
 {
     let name = declarator.name.name.as_slice();
-    r.scopes.refuse_clash(alloc, d, innermost(env), name)?;
-    let counts = lengths(alloc, &r.scopes, env, d, declarator.dimensions.as_slice())?;
+    r.scopes.refuse_clash(alloc, at.d, innermost(at.env), name)?;
+    let counts = lengths(alloc, &r.scopes, at, declarator.dimensions.as_slice())?;
     let counts = counts.as_slice();
     let ty = form_ty(alloc, form, counts)?;
     r.declare_type(
         alloc,
-        d,
-        env,
+        at,
         name,
         ty,
         form_tag(form, counts),
@@ -84,29 +79,23 @@ fn alias(
 fn aliases(
     alloc: Global,
     r: &mut Shapes,
-    env: &[Scope],
-    d: u32,
+    at: At,
     form: &Form,
     list: &[Declarator],
 ) -> Result<(), NameErr>
-    ensures { Gives (λ _. state r.new) result (aliases_on d env.now form.now (state r.old) list.now) }
+    ensures { Gives (λ _. state r.new) result
+        (aliases_on at.entry.d at.entry.env.now form.now (state r.old) list.now) }
 {
     for declarator in list {
-        alias(alloc, r, env, d, form, declarator)?;
+        alias(alloc, r, at, form, declarator)?;
     }
     Ok(())
 }
 
 /// Declares what a typedef declares.
-pub(crate) fn typedef(
-    alloc: Global,
-    r: &mut Shapes,
-    env: &[Scope],
-    d: u32,
-    t: &Typedef,
-) -> Result<(), NameErr>
-    ensures { Gives (λ _. state r.new) result (typedef_on d env.now (state r.old) t.now) }
+pub(crate) fn typedef(alloc: Global, r: &mut Shapes, at: At, t: &Typedef) -> Result<(), NameErr>
+    ensures { Gives (λ _. state r.new) result (typedef_on at.entry.d at.entry.env.now (state r.old) t.now) }
 {
-    let form = aliased(alloc, r, env, d, &t.of)?;
-    aliases(alloc, r, env, d, &form, t.declarators.as_slice())
+    let form = aliased(alloc, r, at, &t.of)?;
+    aliases(alloc, r, at, &form, t.declarators.as_slice())
 }

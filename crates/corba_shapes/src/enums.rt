@@ -7,10 +7,11 @@ ghost use Rattle.corba_scopes.specs.Names.{lower, lower_of, refused_by, clash};
 ghost use Rattle.corba_shapes.specs.Held.{state};
 ghost use Rattle.corba_shapes.specs.Enums.{item_clash, items_on, enum_on};
 
+use crate::places::At;
 use crate::state::Shapes;
 use aoi::{Items, NameErr, NameFault};
 use corba_decls::Enum;
-use corba_scopes::{Meaning, Scope, Scopes, innermost, lower_of, refuse_fault};
+use corba_scopes::{Meaning, Scopes, innermost, lower_of, refuse_fault};
 use idl_exprs::Identifier;
 use idl_names::{Tag, add_label, enum_of, want};
 use indexmap::IndexSet;
@@ -113,21 +114,15 @@ fn items(
 }
 
 /// Declares an enum and its items.
-pub(crate) fn enum_(
-    alloc: Global,
-    r: &mut Shapes,
-    env: &[Scope],
-    d: u32,
-    e: &Enum,
-) -> Result<(), NameErr>
-    ensures { Gives (λ _. state r.new) result (enum_on d env.now (state r.old) e.now) }
+pub(crate) fn enum_(alloc: Global, r: &mut Shapes, at: At, e: &Enum) -> Result<(), NameErr>
+    ensures { Gives (λ _. state r.new) result (enum_on at.entry.d at.entry.env.now (state r.old) e.now) }
 {
     let name = e.name.name.as_slice();
     refuse_name(
         alloc,
         &r.scopes,
-        d,
-        innermost(env),
+        at.d,
+        innermost(at.env),
         name,
         e.items.as_slice(),
     )?;
@@ -137,11 +132,11 @@ pub(crate) fn enum_(
         alloc,
         &mut r.scopes,
         &mut r.labels,
-        d,
-        innermost(env),
+        at.d,
+        innermost(at.env),
         k,
         place,
         e.items.as_slice(),
     )?;
-    r.declare_type(alloc, d, env, name, enum_of(items), Tag::Enum(k), None)
+    r.declare_type(alloc, at, name, enum_of(items), Tag::Enum(k), None)
 }

@@ -7,9 +7,10 @@ ghost use Rattle.corba_shapes.specs.Forms.{form_shape};
 ghost use Rattle.corba_shapes.specs.Fields.{lengths_on, placed_on, fields_on, members_on};
 
 use crate::forms::{Form, form_ty, type_form};
+use crate::places::At;
 use aoi::{Counts, Field, Fields, NameErr};
 use corba_decls::{Declarator, Dimension, Member};
-use corba_scopes::{Meaning, Scope, Scopes, innermost};
+use corba_scopes::{Meaning, Scopes, innermost};
 use kit_base::{Name, NoMemory};
 use mint::kind::Count;
 use std::alloc::Global;
@@ -18,15 +19,14 @@ use std::alloc::Global;
 pub(crate) fn lengths(
     alloc: Global,
     scopes: &Scopes,
-    env: &[Scope],
-    d: u32,
+    at: At,
     list: &[Dimension],
 ) -> Result<Counts, NameErr>
-    ensures { Gives (λ x. x) result (lengths_on scopes.now env.now d [] list.now) }
+    ensures { Gives (λ x. x) result (lengths_on scopes.now at.entry.env.now at.entry.d [] list.now) }
 {
     let mut counts = Counts::new(alloc);
     for dimension in list {
-        let n = scopes.length(alloc, env, d, &dimension.length)?;
+        let n = scopes.length(alloc, at.env, at.d, &dimension.length)?;
         counts.push(Count::Exactly(n))?;
     }
     Ok(counts)
@@ -36,16 +36,16 @@ pub(crate) fn lengths(
 pub(crate) fn placed(
     alloc: Global,
     scopes: &mut Scopes,
-    env: &[Scope],
-    d: u32,
+    at: At,
     declarator: &Declarator,
 ) -> Result<Counts, NameErr>
-    ensures { Gives (λ ns. (scopes.new, ns)) result (placed_on env.now d scopes.old declarator.now) }
+    ensures { Gives (λ ns. (scopes.new, ns)) result
+        (placed_on at.entry.env.now at.entry.d scopes.old declarator.now) }
 {
     let name = declarator.name.name.as_slice();
-    scopes.refuse_clash(alloc, d, innermost(env), name)?;
-    let counts = lengths(alloc, scopes, env, d, declarator.dimensions.as_slice())?;
-    scopes.declare_new(alloc, d, innermost(env), name, Meaning::Other)?;
+    scopes.refuse_clash(alloc, at.d, innermost(at.env), name)?;
+    let counts = lengths(alloc, scopes, at, declarator.dimensions.as_slice())?;
+    scopes.declare_new(alloc, at.d, innermost(at.env), name, Meaning::Other)?;
     Ok(counts)
 }
 
@@ -63,18 +63,17 @@ fn field(alloc: Global, name: &[u8], form: &Form, lengths: &[Count]) -> Result<F
 fn add_fields(
     alloc: Global,
     scopes: &mut Scopes,
-    env: &[Scope],
-    d: u32,
+    at: At,
     form: &Form,
     fields: &mut Fields,
     list: &[Declarator],
 ) -> Result<(), NameErr>
     ensures { Gives (λ _. record { names = scopes.new; fields = map seen_field fields.new }) result
-        (fields_on env.now d form.now
+        (fields_on at.entry.env.now at.entry.d form.now
         (record { names = scopes.old; fields = map seen_field fields.old }) list.now) }
 {
     for declarator in list {
-        let counts = placed(alloc, scopes, env, d, declarator)?;
+        let counts = placed(alloc, scopes, at, declarator)?;
         let name = declarator.name.name.as_slice();
         fields.push(field(alloc, name, form, counts.as_slice())?)?;
     }
@@ -85,21 +84,19 @@ fn add_fields(
 pub(crate) fn members(
     alloc: Global,
     scopes: &mut Scopes,
-    env: &[Scope],
-    d: u32,
+    at: At,
     list: &[Member],
 ) -> Result<Fields, NameErr>
     ensures { Gives (λ fields. record { names = scopes.new; fields = map seen_field fields }) result
-        (members_on env.now d (record { names = scopes.old; fields = [] }) list.now) }
+        (members_on at.entry.env.now at.entry.d (record { names = scopes.old; fields = [] }) list.now) }
 {
     let mut fields = Fields::new(alloc);
     for member in list {
-        let form = type_form(alloc, scopes, env, d, &member.of)?;
+        let form = type_form(alloc, scopes, at, &member.of)?;
         add_fields(
             alloc,
             scopes,
-            env,
-            d,
+            at,
             &form,
             &mut fields,
             member.declarators.as_slice(),

@@ -5,15 +5,17 @@ ghost use Rattle.aoi.specs.Shapes.{seen};
 ghost use Rattle.idl_names.specs.Answers.{Gives};
 ghost use Rattle.corba_shapes.specs.Forms.{kind_of, number_core, type_of_entry, named_type, named_core};
 ghost use Rattle.corba_shapes.specs.Forms.{simple_core, bounded, base_core, single, type_form};
-ghost use Rattle.corba_shapes.specs.Forms.{core_shape, rowed, form_shape};
+ghost use Rattle.corba_shapes.specs.Forms.{core_shape, rowed, form_shape, lengths_of};
 ghost use Rattle.corba_shapes.specs.Forms.{is_row, core_tag, core_text, form_tag, form_text};
 
+use crate::places::At;
 use aoi::{Counts, NameErr, NameFault, Ty};
 use corba_decls::{Base, Int, IntSize, Simple, TypeName, TypeNode};
-use corba_scopes::{Entry, Meaning, Scope, Scopes};
+use corba_scopes::{Entry, Meaning, Scopes};
 use idl_exprs::{Expr, ScopedName};
 use idl_names::{Tag, Use, array_of, arrays_of, tag_of_use, ty_of_use};
 use kit_base::{Name, NoMemory};
+use kit_shared::Shared;
 use mint::kind::{Count, Kind};
 use std::alloc::Global;
 
@@ -34,6 +36,9 @@ pub struct Form {
     /// How many elements its sequences have, the innermost first.
     pub rows: Counts,
 }
+
+/// The lengths of an array, if there is one: that of the outermost, and those within it, kept once.
+pub(crate) type Kept = Option<(Count, Shared<Counts>)>;
 
 /// The kind of an integer type.
 pub(crate) fn kind_of(i: &Int) -> Kind
@@ -80,27 +85,25 @@ fn type_of_entry(d: u32, entry: &Option<Entry>) -> Result<(Use, Option<Count>), 
 pub fn named_type(
     alloc: Global,
     scopes: &Scopes,
-    env: &[Scope],
-    d: u32,
+    at: At,
     name: &ScopedName,
 ) -> Result<(Use, Option<Count>), NameErr>
-    ensures { Gives (λ x. x) result (named_type scopes.now env.now d name.now) }
+    ensures { Gives (λ x. x) result (named_type scopes.now at.entry.env.now at.entry.d name.now) }
 {
-    let entry = scopes.named(alloc, env, name)?;
-    type_of_entry(d, &entry)
+    let entry = scopes.named(alloc, at.env, name)?;
+    type_of_entry(at.d, &entry)
 }
 
 /// The type that a scoped name stands for at a place, as one that is not a row.
 pub(crate) fn named_core(
     alloc: Global,
     scopes: &Scopes,
-    env: &[Scope],
-    d: u32,
+    at: At,
     name: &ScopedName,
 ) -> Result<Core, NameErr>
-    ensures { Gives (λ x. x) result (named_core scopes.now env.now d name.now) }
+    ensures { Gives (λ x. x) result (named_core scopes.now at.entry.env.now at.entry.d name.now) }
 {
-    let (used, text) = named_type(alloc, scopes, env, d, name)?;
+    let (used, text) = named_type(alloc, scopes, at, name)?;
     Ok(Core::Used(used, text))
 }
 
@@ -121,40 +124,28 @@ fn simple_core(d: u32, word: Simple) -> Result<Core, NameErr>
 }
 
 /// How many elements a sequence may have, or characters a string.
-fn bounded(
-    alloc: Global,
-    scopes: &Scopes,
-    env: &[Scope],
-    d: u32,
-    bound: &Option<Expr>,
-) -> Result<Count, NameErr>
-    ensures { Gives (λ x. x) result (bounded scopes.now env.now d bound.now) }
+fn bounded(alloc: Global, scopes: &Scopes, at: At, bound: &Option<Expr>) -> Result<Count, NameErr>
+    ensures { Gives (λ x. x) result (bounded scopes.now at.entry.env.now at.entry.d bound.now) }
 {
     match bound {
         None => Ok(Count::Any),
-        Some(e) => Ok(Count::AtMost(scopes.length(alloc, env, d, e)?)),
+        Some(e) => Ok(Count::AtMost(scopes.length(alloc, at.env, at.d, e)?)),
     }
 }
 
 /// A type that is not a sequence.
-fn base_core(
-    alloc: Global,
-    scopes: &Scopes,
-    env: &[Scope],
-    d: u32,
-    base: &Base,
-) -> Result<Core, NameErr>
-    ensures { Gives (λ x. x) result (base_core scopes.now env.now d base.now) }
+fn base_core(alloc: Global, scopes: &Scopes, at: At, base: &Base) -> Result<Core, NameErr>
+    ensures { Gives (λ x. x) result (base_core scopes.now at.entry.env.now at.entry.d base.now) }
 {
     match base {
-        Base::Simple(word) => simple_core(d, *word),
+        Base::Simple(word) => simple_core(at.d, *word),
         Base::LongDouble => Err(NameErr {
             fault: NameFault::OutOfScope,
-            decl: d,
+            decl: at.d,
         }),
         Base::Int(i) => Ok(number_core(kind_of(i))),
-        Base::Name(name) => named_core(alloc, scopes, env, d, name),
-        Base::Text(bound) => Ok(Core::Text(bounded(alloc, scopes, env, d, bound)?)),
+        Base::Name(name) => named_core(alloc, scopes, at, name),
+        Base::Text(bound) => Ok(Core::Text(bounded(alloc, scopes, at, bound)?)),
     }
 }
 
@@ -169,20 +160,14 @@ pub(crate) fn single(alloc: Global, core: Core) -> Form
 }
 
 /// A type as it is used at a place.
-pub fn type_form(
-    alloc: Global,
-    scopes: &Scopes,
-    env: &[Scope],
-    d: u32,
-    t: &TypeName,
-) -> Result<Form, NameErr>
-    ensures { Gives (λ x. x) result (type_form scopes.now env.now d t.now.0 t.now.1) }
+pub fn type_form(alloc: Global, scopes: &Scopes, at: At, t: &TypeName) -> Result<Form, NameErr>
+    ensures { Gives (λ x. x) result (type_form scopes.now at.entry.env.now at.entry.d t.now.0 t.now.1) }
 {
     match &t.node {
-        TypeNode::Base(base) => Ok(single(alloc, base_core(alloc, scopes, env, d, base)?)),
+        TypeNode::Base(base) => Ok(single(alloc, base_core(alloc, scopes, at, base)?)),
         TypeNode::Sequence(element, bound) => {
-            let mut form = type_form(alloc, scopes, env, d, element)?;
-            form.rows.push(bounded(alloc, scopes, env, d, bound)?)?;
+            let mut form = type_form(alloc, scopes, at, element)?;
+            form.rows.push(bounded(alloc, scopes, at, bound)?)?;
             Ok(form)
         }
     }
@@ -208,15 +193,36 @@ fn rowed(alloc: Global, ty: Ty, rows: &[Count]) -> Result<Ty, NoMemory>
     }
 }
 
+/// The lengths of an array, the outermost first, as what types may share.
+pub(crate) fn kept(alloc: Global, lengths: &[Count]) -> Result<Kept, NoMemory>
+    ensures { IfOk result (λ k. lengths_of k ≡ lengths.now) }
+{
+    match lengths {
+        [count, within @ ..] => {
+            let within = Counts::from_slice(alloc, within)?;
+            Ok(Some((*count, Shared::new(alloc, within)?)))
+        }
+        [] => Ok(None),
+    }
+}
+
+/// A type that is used, with the lengths of an array after it, which it shares, as a type of the unit.
+pub(crate) fn kept_ty(alloc: Global, form: &Form, lengths: &Kept) -> Result<Ty, NoMemory>
+    ensures { IfOk result (λ t. seen t ≡ form_shape form.now (lengths_of lengths.now)) }
+{
+    let ty = rowed(alloc, core_ty(form.core), form.rows.as_slice())?;
+    match lengths {
+        Some((count, within)) => arrays_of(alloc, ty, *count, within),
+        None => Ok(ty),
+    }
+}
+
 /// A type that is used, with the lengths of an array after it, the outermost first, as a type of the unit.
 pub fn form_ty(alloc: Global, form: &Form, lengths: &[Count]) -> Result<Ty, NoMemory>
     ensures { IfOk result (λ t. seen t ≡ form_shape form.now lengths.now) }
 {
-    let ty = rowed(alloc, core_ty(form.core), form.rows.as_slice())?;
-    match lengths {
-        [count, within @ ..] => arrays_of(alloc, ty, *count, within),
-        [] => Ok(ty),
-    }
+    let lengths = kept(alloc, lengths)?;
+    kept_ty(alloc, form, &lengths)
 }
 
 /// Whether a type with the lengths of an array is a row: a sequence or an array.

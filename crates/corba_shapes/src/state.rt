@@ -7,9 +7,10 @@ ghost use Rattle.idl_names.specs.Answers.{Gives};
 ghost use Rattle.corba_shapes.specs.Held.{state};
 ghost use Rattle.corba_shapes.specs.State.{start, counted, with_type};
 
+use crate::places::At;
 use crate::types::TypeList;
 use aoi::{NameErr, Raises, Ty};
-use corba_scopes::{Meaning, Scope, Scopes, innermost, named_in};
+use corba_scopes::{Meaning, Scopes, innermost, named_in};
 use idl_names::{Tag, Use, want};
 use indexmap::IndexSet;
 use mint::kind::Count;
@@ -74,21 +75,20 @@ impl Shapes {
     pub(crate) fn declare_type(
         &mut self,
         alloc: Global,
-        d: u32,
-        env: &[Scope],
+        at: At,
         name: &[u8],
         ty: Ty,
         tag: Tag,
         text: Option<Count>,
     ) -> Result<(), NameErr>
         ensures { Gives (λ _. state self.new) result
-            (with_type d env.now name.now (seen ty) tag text (state self.old)) }
+            (with_type at.entry.d at.entry.env.now name.now (seen ty) tag text (state self.old)) }
     {
         let k = self.next_type()?;
         let meaning = Meaning::Type(Use::Declared(k, tag), text);
         self.scopes
-            .declare_new(alloc, d, innermost(env), name, meaning)?;
-        self.types.add(named_in(alloc, env, name)?, ty)?;
+            .declare_new(alloc, at.d, innermost(at.env), name, meaning)?;
+        self.types.add(named_in(alloc, at.env, name)?, ty)?;
         Ok(())
     }
 }

@@ -8,36 +8,29 @@ ghost use Rattle.corba_shapes.specs.Held.{state};
 ghost use Rattle.corba_shapes.specs.Structs.{struct_on, slashed, repository, raised, exception_on};
 
 use crate::fields::members;
+use crate::places::At;
 use crate::state::Shapes;
 use aoi::{Fields, NameErr, Raise, RaiseFields};
 use corba_decls::{Exception, Struct};
-use corba_scopes::{Meaning, Scope, full_name, innermost, inside};
+use corba_scopes::{Meaning, full_name, innermost, inside};
 use idl_names::{Tag, struct_of, want};
 use kit_base::{Name, NoMemory};
 use kit_shared::Shared;
 use std::alloc::Global;
 
 /// Declares a struct, after its members.
-pub(crate) fn struct_(
-    alloc: Global,
-    r: &mut Shapes,
-    env: &[Scope],
-    d: u32,
-    t: &Struct,
-) -> Result<(), NameErr>
-    ensures { Gives (λ _. state r.new) result (struct_on d env.now (state r.old) t.now) }
+pub(crate) fn struct_(alloc: Global, r: &mut Shapes, at: At, t: &Struct) -> Result<(), NameErr>
+    ensures { Gives (λ _. state r.new) result (struct_on at.entry.d at.entry.env.now (state r.old) t.now) }
 {
     let name = t.name.name.as_slice();
-    r.scopes.refuse_clash(alloc, d, innermost(env), name)?;
-    let inner = inside(alloc, env, name)?;
-    let fields = members(
-        alloc,
-        &mut r.scopes,
-        inner.as_slice(),
-        d,
-        t.members.as_slice(),
-    )?;
-    r.declare_type(alloc, d, env, name, struct_of(fields), Tag::Other, None)
+    r.scopes.refuse_clash(alloc, at.d, innermost(at.env), name)?;
+    let inner = inside(alloc, at.env, name)?;
+    let inner = At {
+        env: inner.as_slice(),
+        d: at.d,
+    };
+    let fields = members(alloc, &mut r.scopes, inner, t.members.as_slice())?;
+    r.declare_type(alloc, at, name, struct_of(fields), Tag::Other, None)
 }
 
 /// An octet, but a slash in the place of a dot.
@@ -79,31 +72,22 @@ fn raised(alloc: Global, full: Name, fields: Fields) -> Result<Raise, NoMemory>
 }
 
 /// Declares an exception, after its members, and puts it after the others.
-pub(crate) fn exception(
-    alloc: Global,
-    r: &mut Shapes,
-    env: &[Scope],
-    d: u32,
-    e: &Exception,
-) -> Result<(), NameErr>
-    ensures { Gives (λ _. state r.new) result (exception_on d env.now (state r.old) e.now) }
+pub(crate) fn exception(alloc: Global, r: &mut Shapes, at: At, e: &Exception) -> Result<(), NameErr>
+    ensures { Gives (λ _. state r.new) result (exception_on at.entry.d at.entry.env.now (state r.old) e.now) }
 {
     let name = e.name.name.as_slice();
-    r.scopes.refuse_clash(alloc, d, innermost(env), name)?;
-    let inner = inside(alloc, env, name)?;
-    let fields = members(
-        alloc,
-        &mut r.scopes,
-        inner.as_slice(),
-        d,
-        e.members.as_slice(),
-    )?;
+    r.scopes.refuse_clash(alloc, at.d, innermost(at.env), name)?;
+    let inner = inside(alloc, at.env, name)?;
+    let inner = At {
+        env: inner.as_slice(),
+        d: at.d,
+    };
+    let fields = members(alloc, &mut r.scopes, inner, e.members.as_slice())?;
     let Ok(k) = u32::try_from(r.exceptions.len()) else {
         return Err(want());
     };
-    r.scopes
-        .declare_new(alloc, d, innermost(env), name, Meaning::Exception(k))?;
-    let full = full_name(alloc, innermost(env), name)?;
+    r.scopes.declare_new(alloc, at.d, innermost(at.env), name, Meaning::Exception(k))?;
+    let full = full_name(alloc, innermost(at.env), name)?;
     r.exceptions.push(raised(alloc, full, fields)?)?;
     Ok(())
 }

@@ -7,16 +7,17 @@ ghost use Rattle.idl_names.specs.Answers.{Gives};
 ghost use Rattle.idl_names.specs.Uses.{shape_of_use};
 ghost use Rattle.idl_names.specs.Arms.{arms_for, arms_held};
 ghost use Rattle.corba_shapes.specs.Held.{state};
-ghost use Rattle.corba_shapes.specs.Forms.{form_shape};
+ghost use Rattle.corba_shapes.specs.Forms.{form_shape, lengths_of};
 ghost use Rattle.corba_shapes.specs.Unions.{tag_use, is_no_tag, label_on, labels_on};
 ghost use Rattle.corba_shapes.specs.Unions.{other_with, case_on, cases_on, union_on};
 
 use crate::fields::placed;
-use crate::forms::{Form, form_ty, kind_of, named_type, type_form};
+use crate::forms::{Form, Kept, form_ty, kept, kept_ty, kind_of, named_type, type_form};
+use crate::places::At;
 use crate::state::Shapes;
 use aoi::{NameErr, NameFault, Ty, UnionArms};
 use corba_decls::{Case, Label, Tag as TagTree, Union};
-use corba_scopes::{Scope, Scopes, innermost, inside};
+use corba_scopes::{Scopes, innermost, inside};
 use idl_names::{Tag, Use, add_number_of, after, boxed, refuse, tag_of_use, ty_of_use, union_of};
 use indexmap::IndexSet;
 use kit_base::NoMemory;
@@ -24,20 +25,14 @@ use mint::kind::{Count, Kind};
 use std::alloc::Global;
 
 /// The type of a tag.
-fn tag_use(
-    alloc: Global,
-    scopes: &Scopes,
-    env: &[Scope],
-    d: u32,
-    tag: &TagTree,
-) -> Result<Use, NameErr>
-    ensures { Gives (λ x. x) result (tag_use scopes.now env.now d tag.now) }
+fn tag_use(alloc: Global, scopes: &Scopes, at: At, tag: &TagTree) -> Result<Use, NameErr>
+    ensures { Gives (λ x. x) result (tag_use scopes.now at.entry.env.now at.entry.d tag.now) }
 {
     match tag {
         TagTree::Int(i) => Ok(Use::Number(kind_of(i))),
         TagTree::Char => Ok(Use::Number(Kind::Char)),
         TagTree::Boolean => Ok(Use::Number(Kind::Bool)),
-        TagTree::Named(name) => Ok(named_type(alloc, scopes, env, d, name)?.0),
+        TagTree::Named(name) => Ok(named_type(alloc, scopes, at, name)?.0),
     }
 }
 
@@ -57,24 +52,23 @@ fn label(
     scopes: &Scopes,
     labels: &IndexSet<(u32, i128)>,
     tag: Tag,
-    env: &[Scope],
-    d: u32,
+    at: At,
     numbers: &mut IndexSet<i128>,
     default: bool,
     label: &Label,
 ) -> Result<bool, NameErr>
     ensures { Gives (λ b. record { numbers = numbers.new.keys; default = b }) result
-        (label_on scopes.now labels.now.keys tag env.now d
+        (label_on scopes.now labels.now.keys tag at.entry.env.now at.entry.d
         (record { numbers = numbers.old.keys; default = default }) label.now) }
 {
     match label {
         Label::Case(e) => {
-            let n = scopes.number(alloc, env, d, e)?;
-            add_number_of(labels, tag, d, numbers, n)?;
+            let n = scopes.number(alloc, at.env, at.d, e)?;
+            add_number_of(labels, tag, at.d, numbers, n)?;
             Ok(default)
         }
         Label::Default => {
-            refuse(NameFault::Label, d, default)?;
+            refuse(NameFault::Label, at.d, default)?;
             Ok(true)
         }
     }
@@ -86,21 +80,37 @@ fn labels_of(
     scopes: &Scopes,
     labels: &IndexSet<(u32, i128)>,
     tag: Tag,
-    env: &[Scope],
-    d: u32,
+    at: At,
     numbers: &mut IndexSet<i128>,
     default: bool,
     list: &[Label],
 ) -> Result<bool, NameErr>
     ensures { Gives (λ b. record { numbers = numbers.new.keys; default = b }) result
-        (labels_on scopes.now labels.now.keys tag env.now d
+        (labels_on scopes.now labels.now.keys tag at.entry.env.now at.entry.d
         (record { numbers = numbers.old.keys; default = default }) list.now) }
 {
     let mut given = default;
     for l in list {
-        given = label(alloc, scopes, labels, tag, env, d, numbers, given, l)?;
+        given = label(alloc, scopes, labels, tag, at, numbers, given, l)?;
     }
     Ok(given)
+}
+
+/// Puts an arm after the others for each of the numbers. The arms share the lengths.
+fn add_kept(
+    alloc: Global,
+    arms: &mut UnionArms,
+    numbers: &[i128],
+    form: &Form,
+    lengths: &Kept,
+) -> Result<(), NoMemory>
+    ensures { OnOk result (arms_held arms.new
+        ≡ arms_held arms.old ++ arms_for (form_shape form.now (lengths_of lengths.now)) numbers.now) }
+{
+    for n in numbers {
+        arms.push((*n, kept_ty(alloc, form, lengths)?))?;
+    }
+    Ok(())
 }
 
 /// Puts an arm after the others for each of the numbers.
@@ -114,10 +124,8 @@ fn add_arms(
     ensures { OnOk result
         (arms_held arms.new ≡ arms_held arms.old ++ arms_for (form_shape form.now lengths.now) numbers.now) }
 {
-    for n in numbers {
-        arms.push((*n, form_ty(alloc, form, lengths)?))?;
-    }
-    Ok(())
+    let lengths = kept(alloc, lengths)?;
+    add_kept(alloc, arms, numbers, form, &lengths)
 }
 
 /// What the default is after a case: the type of the case, where it is the first that has the default.
@@ -148,8 +156,7 @@ fn case(
     scopes: &mut Scopes,
     labels: &IndexSet<(u32, i128)>,
     tag: Tag,
-    env: &[Scope],
-    d: u32,
+    at: At,
     numbers: &mut IndexSet<i128>,
     arms: &mut UnionArms,
     other: Option<Box<Ty>>,
@@ -160,7 +167,7 @@ fn case(
       numbers = numbers.new.keys;
       arms = arms_held arms.new;
       other = option_map (λ b. seen b.value) o;
-    }) result (case_on labels.now.keys tag env.now d (record {
+    }) result (case_on labels.now.keys tag at.entry.env.now at.entry.d (record {
       names = scopes.old;
       numbers = numbers.old.keys;
       arms = arms_held arms.old;
@@ -172,14 +179,13 @@ fn case(
         scopes,
         labels,
         tag,
-        env,
-        d,
+        at,
         numbers,
         other.is_some(),
         case.labels.as_slice(),
     )?;
-    let form = type_form(alloc, scopes, env, d, &case.of)?;
-    let lengths = placed(alloc, scopes, env, d, &case.declarator)?;
+    let form = type_form(alloc, scopes, at, &case.of)?;
+    let lengths = placed(alloc, scopes, at, &case.declarator)?;
     let lengths = lengths.as_slice();
     add_arms(
         alloc,
@@ -197,8 +203,7 @@ fn cases(
     scopes: &mut Scopes,
     labels: &IndexSet<(u32, i128)>,
     tag: Tag,
-    env: &[Scope],
-    d: u32,
+    at: At,
     numbers: &mut IndexSet<i128>,
     list: &[Case],
 ) -> Result<(UnionArms, Option<Box<Ty>>), NameErr>
@@ -207,15 +212,13 @@ fn cases(
       numbers = numbers.new.keys;
       arms = arms_held c.0;
       other = option_map (λ b. seen b.value) c.1;
-    }) result (cases_on labels.now.keys tag env.now d
+    }) result (cases_on labels.now.keys tag at.entry.env.now at.entry.d
         (record { names = scopes.old; numbers = numbers.old.keys; arms = []; other = None }) list.now) }
 {
     let mut arms = UnionArms::new(alloc);
     let mut other = None;
     for c in list {
-        other = case(
-            alloc, scopes, labels, tag, env, d, numbers, &mut arms, other, c,
-        )?;
+        other = case(alloc, scopes, labels, tag, at, numbers, &mut arms, other, c)?;
     }
     Ok((arms, other))
 }
@@ -245,22 +248,19 @@ fn union_ty(
 }
 
 /// Declares a union, after its cases.
-pub(crate) fn union_(
-    alloc: Global,
-    r: &mut Shapes,
-    env: &[Scope],
-    d: u32,
-    u: &Union,
-) -> Result<(), NameErr>
-    ensures { Gives (λ _. state r.new) result (union_on d env.now (state r.old) u.now) }
+pub(crate) fn union_(alloc: Global, r: &mut Shapes, at: At, u: &Union) -> Result<(), NameErr>
+    ensures { Gives (λ _. state r.new) result (union_on at.entry.d at.entry.env.now (state r.old) u.now) }
 {
     let name = u.name.name.as_slice();
-    r.scopes.refuse_clash(alloc, d, innermost(env), name)?;
-    let inner = inside(alloc, env, name)?;
-    let inner = inner.as_slice();
-    let used = tag_use(alloc, &r.scopes, inner, d, &u.tag)?;
+    r.scopes.refuse_clash(alloc, at.d, innermost(at.env), name)?;
+    let inner = inside(alloc, at.env, name)?;
+    let inner = At {
+        env: inner.as_slice(),
+        d: at.d,
+    };
+    let used = tag_use(alloc, &r.scopes, inner, &u.tag)?;
     let tag = tag_of_use(used);
-    refuse(NameFault::NotType, d, is_no_tag(tag))?;
+    refuse(NameFault::NotType, at.d, is_no_tag(tag))?;
     let mut numbers = IndexSet::new(alloc);
     let (arms, other) = cases(
         alloc,
@@ -268,10 +268,9 @@ pub(crate) fn union_(
         &r.labels,
         tag,
         inner,
-        d,
         &mut numbers,
         u.cases.as_slice(),
     )?;
     let ty = union_ty(alloc, used, arms, other)?;
-    r.declare_type(alloc, d, env, name, ty, Tag::Other, None)
+    r.declare_type(alloc, at, name, ty, Tag::Other, None)
 }

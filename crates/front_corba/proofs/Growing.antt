@@ -1,9 +1,9 @@
 -- A declaration puts types after the others, if any.
-use Rattle.std.proofs.Common.{◌≡◌, ℕ, ◌≤◌, not, List, [], ◌∷◌, ◌++◌, length, Option, None, subst, arith}
+use Rattle.std.proofs.Common.{◌≡◌, ℕ, ◌≤◌, List, [], ◌∷◌, ◌++◌, length, Option, None, subst, arith}
 use Rattle.std.specs.Prelude.{Ok}
 use Rattle.std.proofs.lemmas.List.{length-append}
 use Rattle.mint.specs.declared.kind.Count.{Count}
-use Rattle.aoi.specs.declared.faults.NameFault.TheVariants.{NotType, Range}
+use Rattle.aoi.specs.declared.faults.NameFault.TheVariants.{NotType}
 use Rattle.aoi.specs.Shapes.{Shape, structure, enumeration, members_of}
 use Rattle.idl_names.specs.declared.uses.Tag.{Tag}
 use Rattle.idl_names.specs.declared.uses.Tag.TheVariants as tag
@@ -25,7 +25,6 @@ use Rattle.corba_decls.specs.declared.decl_tree.Declaration.TheVariants as D
 use Rattle.corba_scopes.specs.declared.meanings.Meaning.TheVariants as M
 use Rattle.corba_scopes.specs.Names.{clash, refused_by, declared_on, lower_of}
 use Rattle.corba_scopes.specs.Around.{innermost, inside}
-use Rattle.corba_scopes.specs.Consts.{constant, meaning_of_constant}
 use Rattle.corba_shapes.specs.declared.forms.Form.{Form}
 use Rattle.corba_shapes.specs.Forms.{type_form, form_shape, form_tag, form_text}
 use Rattle.corba_shapes.specs.State.{State, with_type}
@@ -34,8 +33,9 @@ use Rattle.corba_shapes.specs.Structs.{struct_on, raised, exception_on}
 use Rattle.corba_shapes.specs.Enums.{item_clash, Items, items_on, enum_on}
 use Rattle.corba_shapes.specs.Unions.{tag_use, is_no_tag, Cases, cases_on, union_shape, union_on}
 use Rattle.corba_shapes.specs.Aliases.{next_form, aliased_on, alias_on, aliases_on, typedef_on}
-use Rattle.corba_shapes.specs.Constants.{constant_core, is_no_constant, fits, constant_on}
+use Rattle.corba_shapes.specs.Constants.{constant_on}
 use Rattle.corba_shapes.specs.Declarations.{declaration_on}
+use Rattle.corba_shapes.proofs.Keeping.{constant_ok}
 
 -- there are as many types as before, or more
 abbrev pub Grows : State → State → Type 0
@@ -127,16 +127,7 @@ typedef_grows d env s out t h =
     omega (arith, one, more)
 
 constant_grows : (d : ℕ) (env : List (List ℕ)) (s out : State) (c : ConstantTree) → constant_on d env s c ≡ Ok out → Grows s out
-constant_grows d env s out c h =
-    let name = c.name.name in
-    let a = then_ok (constant_core s.names env d c.of) _ out h in
-    let b = then_ok (refused NotType d (is_no_constant a.given)) _ out a.rest in
-    let e = then_ok (refused_by d (clash s.names (innermost env) name)) _ out b.rest in
-    let f = then_ok (constant s.names env d c.value) _ out e.rest in
-    let g = then_ok (refused Range d (not (fits s.labels a.given f.given))) _ out f.rest in
-    let i = then_ok (declared_on d s.names (innermost env) name (meaning_of_constant f.given)) _ out g.rest in
-    let made : State = record s { names = i.given } in
-    subst (Grows s) (ok_same made out i.rest) (omega arith)
+constant_grows d env s out c h = subst (Grows s) (constant_ok d env s out c h).made (omega arith)
 
 -- a declaration takes no type away
 pub declaration_grows : (d : ℕ) (env : List (List ℕ)) (s out : State) (x : Declaration) → declaration_on d env s x ≡ Ok out → Grows s out

@@ -13,8 +13,8 @@ use crate::offers::{offer, own_clash};
 use crate::parameters::field;
 use crate::{NameErr, NameFault};
 use aoi::{Fields, Operation, Raises, Ty};
-use corba_scopes::{Meaning, Scope, Scopes, full_name, innermost, lower_of, refuse_fault};
-use corba_shapes::{Form, Shapes, form_ty, type_form};
+use corba_scopes::{Meaning, Scopes, full_name, innermost, lower_of, refuse_fault};
+use corba_shapes::{At, Form, Shapes, form_ty, type_form};
 use corba_syntax::Attribute;
 use idl_exprs::Identifier;
 use kit_base::{Name, NoMemory};
@@ -177,21 +177,20 @@ fn attribute(
 /// Declares attributes of one type.
 pub(crate) fn attributes(
     alloc: Global,
-    env: &[Scope],
-    d: u32,
+    at: At,
     home: u32,
     shapes: &mut Shapes,
     ops: &mut Offers,
     a: &Attribute,
 ) -> Result<(), NameErr>
     ensures { Gives (λ _. body shapes.new ops.new) result
-        (attributes_on d env.now home (body shapes.old ops.old) a.now) }
+        (attributes_on at.entry.d at.entry.env.now home (body shapes.old ops.old) a.now) }
 {
-    let form = type_form(alloc, &shapes.scopes, env, d, &a.of)?;
+    let form = type_form(alloc, &shapes.scopes, at, &a.of)?;
     attributes_of(
         alloc,
-        d,
-        innermost(env),
+        at.d,
+        innermost(at.env),
         home,
         a.readonly,
         &form,

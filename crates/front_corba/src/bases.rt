@@ -12,7 +12,8 @@ use crate::named::Offers;
 use crate::offers::{add, operation_clash};
 use crate::state::{Heir, Offer, Offering, Resolver};
 use crate::{NameErr, NameFault};
-use corba_scopes::{Entry, Meaning, Scope, lower_of, prefix_of, refuse_fault};
+use corba_scopes::{Entry, Meaning, lower_of, prefix_of, refuse_fault};
+use corba_shapes::At;
 use corba_syntax::Reference;
 use idl_names::{add_number, has_number};
 use kit_base::{Name, NoMemory};
@@ -124,35 +125,34 @@ fn new_base(
 fn base(
     alloc: Global,
     r: &Resolver,
-    env: &[Scope],
-    d: u32,
+    at: At,
     heir: &mut Heir,
     reference: &Reference,
 ) -> Result<(), NameErr>
     ensures { Gives (λ _. heirs heir.new) result
-        (base_on d env.now (held r.now) (heirs heir.old) reference.now) }
+        (base_on at.entry.d at.entry.env.now (held r.now) (heirs heir.old) reference.now) }
 {
-    let entry = r.shapes.scopes.named(alloc, env, &reference.name)?;
-    let (k, full) = interface_at(d, entry)?;
+    let entry = r.shapes.scopes.named(alloc, at.env, &reference.name)?;
+    let (k, full) = interface_at(at.d, entry)?;
     if has_number(&heir.numbers, k) {
         return Ok(());
     }
-    new_base(alloc, r, d, heir, k, full.as_slice())
+    new_base(alloc, r, at.d, heir, k, full.as_slice())
 }
 
 /// Puts what bases have after what those before them have.
 pub(crate) fn bases(
     alloc: Global,
     r: &Resolver,
-    env: &[Scope],
-    d: u32,
+    at: At,
     heir: &mut Heir,
     list: &[Reference],
 ) -> Result<(), NameErr>
-    ensures { Gives (λ _. heirs heir.new) result (bases_on d env.now (held r.now) (heirs heir.old) list.now) }
+    ensures { Gives (λ _. heirs heir.new) result
+        (bases_on at.entry.d at.entry.env.now (held r.now) (heirs heir.old) list.now) }
 {
     for reference in list {
-        base(alloc, r, env, d, heir, reference)?;
+        base(alloc, r, at, heir, reference)?;
     }
     Ok(())
 }

@@ -14,7 +14,7 @@ use crate::operations::operation;
 use crate::state::{Heir, Offering, Resolver};
 use crate::{NameErr, NameFault};
 use corba_scopes::{BaseOrder, Meaning, Scope, Scopes, full_name, innermost, inside};
-use corba_shapes::{Shapes, declare};
+use corba_shapes::{At, Shapes, declare};
 use corba_syntax::{Export, Interface};
 use idl_names::refuse;
 use kit_base::Name;
@@ -25,20 +25,19 @@ use std::alloc::Global;
 /// Declares one export of an interface, by its number as a declaration.
 fn export(
     alloc: Global,
-    env: &[Scope],
-    d: u32,
+    at: At,
     home: u32,
     shapes: &mut Shapes,
     ops: &mut Offers,
     export: &Export,
 ) -> Result<(), NameErr>
     ensures { Gives (λ _. body shapes.new ops.new) result
-        (export_on d env.now home (body shapes.old ops.old) export.now) }
+        (export_on at.entry.d at.entry.env.now home (body shapes.old ops.old) export.now) }
 {
     match export {
-        Export::Declaration(x) => declare(alloc, shapes, env, d, x),
-        Export::Attribute(a) => attributes(alloc, env, d, home, shapes, ops, a),
-        Export::Operation(o) => operation(alloc, env, d, home, shapes, ops, o),
+        Export::Declaration(x) => declare(alloc, shapes, at, x),
+        Export::Attribute(a) => attributes(alloc, at, home, shapes, ops, a),
+        Export::Operation(o) => operation(alloc, at, home, shapes, ops, o),
     }
 }
 
@@ -56,7 +55,7 @@ fn exports(
 {
     for item in list {
         let d = shapes.next()?;
-        export(alloc, env, d, home, shapes, ops, item)?;
+        export(alloc, At { env, d }, home, shapes, ops, item)?;
     }
     Ok(())
 }
@@ -96,21 +95,24 @@ fn seat(
     alloc: Global,
     scopes: &Scopes,
     interfaces: &[Offering],
-    env: &[Scope],
-    d: u32,
+    at: At,
     name: &[u8],
 ) -> Result<(u32, Name), NameErr>
     ensures { Gives (λ x. x) result
-        (seat_on d env.now scopes.now (map plain_offering interfaces.now) name.now) }
+        (seat_on at.entry.d at.entry.env.now scopes.now (map plain_offering interfaces.now) name.now) }
 {
-    scopes.refuse_clash(alloc, d, innermost(env), name)?;
-    let full = full_name(alloc, innermost(env), name)?;
-    refuse(NameFault::Twice, d, has_full(full.as_slice(), interfaces))?;
+    scopes.refuse_clash(alloc, at.d, innermost(at.env), name)?;
+    let full = full_name(alloc, innermost(at.env), name)?;
+    refuse(
+        NameFault::Twice,
+        at.d,
+        has_full(full.as_slice(), interfaces),
+    )?;
     let place = interfaces.len();
     if place >= MOST_INTERFACES {
         return Err(NameErr {
             fault: NameFault::Limit,
-            decl: d,
+            decl: at.d,
         });
     }
     Ok((place as u32, full))
@@ -120,14 +122,14 @@ fn seat(
 fn with_bases(
     alloc: Global,
     r: &Resolver,
-    env: &[Scope],
-    d: u32,
+    at: At,
     mut heir: Heir,
     i: &Interface,
 ) -> Result<Heir, NameErr>
-    ensures { Gives heirs result (bases_on d env.now (held r.now) (heirs heir) i.now.bases) }
+    ensures { Gives heirs result
+        (bases_on at.entry.d at.entry.env.now (held r.now) (heirs heir) i.now.bases) }
 {
-    match bases(alloc, r, env, d, &mut heir, i.bases.as_slice()) {
+    match bases(alloc, r, at, &mut heir, i.bases.as_slice()) {
         Ok(()) => Ok(heir),
         Err(e) => Err(e),
     }
@@ -137,15 +139,15 @@ fn with_bases(
 fn heritage(
     alloc: Global,
     r: &Resolver,
-    env: &[Scope],
-    d: u32,
+    at: At,
     i: &Interface,
 ) -> Result<(BaseOrder, Offers), NameErr>
-    ensures { Gives (λ x. (x.0, map plain_offer x.1)) result (heritage_on d env.now (held r.now) i.now) }
+    ensures { Gives (λ x. (x.0, map plain_offer x.1)) result
+        (heritage_on at.entry.d at.entry.env.now (held r.now) i.now) }
 {
-    let inner = inside(alloc, env, i.name.name.as_slice())?;
+    let inner = inside(alloc, at.env, i.name.name.as_slice())?;
     let heir = Heir::of(alloc, innermost(inner.as_slice()))?;
-    let heir = with_bases(alloc, r, env, d, heir, i)?;
+    let heir = with_bases(alloc, r, at, heir, i)?;
     let Heir {
         numbers: _,
         line,
@@ -157,8 +159,7 @@ fn heritage(
 /// Declares the name of an interface, and what it declares after the operations of its bases.
 fn enter(
     alloc: Global,
-    env: &[Scope],
-    d: u32,
+    at: At,
     home: u32,
     line: BaseOrder,
     shapes: &mut Shapes,
@@ -166,15 +167,15 @@ fn enter(
     i: &Interface,
 ) -> Result<(), NameErr>
     ensures { Gives (λ _. body shapes.new ops.new) result
-        (entered_on d env.now home line (body shapes.old ops.old) i.now) }
+        (entered_on at.entry.d at.entry.env.now home line (body shapes.old ops.old) i.now) }
 {
     let name = i.name.name.as_slice();
-    let inner = inside(alloc, env, name)?;
+    let inner = inside(alloc, at.env, name)?;
     let inner = inner.as_slice();
     open(
         alloc,
-        d,
-        innermost(env),
+        at.d,
+        innermost(at.env),
         innermost(inner),
         home,
         &mut shapes.scopes,
@@ -188,16 +189,16 @@ fn enter(
 fn seated(
     alloc: Global,
     r: &mut Resolver,
-    env: &[Scope],
-    d: u32,
+    at: At,
     i: &Interface,
     home: u32,
     full: Name,
 ) -> Result<(), NameErr>
-    ensures { Gives (λ _. held r.new) result (seated_on d env.now (held r.old) i.now (home, full)) }
+    ensures { Gives (λ _. held r.new) result
+        (seated_on at.entry.d at.entry.env.now (held r.old) i.now (home, full)) }
 {
-    let (line, mut ops) = heritage(alloc, r, env, d, i)?;
-    enter(alloc, env, d, home, line, &mut r.shapes, &mut ops, i)?;
+    let (line, mut ops) = heritage(alloc, r, at, i)?;
+    enter(alloc, at, home, line, &mut r.shapes, &mut ops, i)?;
     let name = Shared::new(alloc, full)?;
     r.interfaces.push(Offering { name, ops })?;
     Ok(())
@@ -207,19 +208,17 @@ fn seated(
 pub(crate) fn interface(
     alloc: Global,
     r: &mut Resolver,
-    env: &[Scope],
-    d: u32,
+    at: At,
     i: &Interface,
 ) -> Result<(), NameErr>
-    ensures { Gives (λ _. held r.new) result (interface_on d env.now (held r.old) i.now) }
+    ensures { Gives (λ _. held r.new) result (interface_on at.entry.d at.entry.env.now (held r.old) i.now) }
 {
     let (home, full) = seat(
         alloc,
         &r.shapes.scopes,
         r.interfaces.as_slice(),
-        env,
-        d,
+        at,
         i.name.name.as_slice(),
     )?;
-    seated(alloc, r, env, d, i, home, full)
+    seated(alloc, r, at, i, home, full)
 }

@@ -15,8 +15,8 @@ use crate::parameters::{are_in, parameters, raises};
 use crate::{NameErr, NameFault};
 use aoi::{Fields, Operation, Raises, Ty};
 use corba_decls::TypeName;
-use corba_scopes::{Scope, Scopes, innermost, inside, refuse_fault};
-use corba_shapes::{Shapes, form_ty, type_form};
+use corba_scopes::{Scopes, innermost, inside, refuse_fault};
+use corba_shapes::{At, Shapes, form_ty, type_form};
 use corba_syntax::{Operation as OperationTree, Reference};
 use idl_names::refuse;
 use kit_base::NoMemory;
@@ -45,16 +45,15 @@ fn gives_back(o: &OperationTree) -> bool
 fn result_of(
     alloc: Global,
     scopes: &Scopes,
-    env: &[Scope],
-    d: u32,
+    at: At,
     given: &Option<TypeName>,
 ) -> Result<Ty, NameErr>
-    ensures { Gives seen result (result_of scopes.now env.now d given.now) }
+    ensures { Gives seen result (result_of scopes.now at.entry.env.now at.entry.d given.now) }
 {
     match given {
         None => Ok(Ty::Void),
         Some(t) => {
-            let form = type_form(alloc, scopes, env, d, t)?;
+            let form = type_form(alloc, scopes, at, t)?;
             Ok(form_ty(alloc, &form, &[])?)
         }
     }
@@ -95,19 +94,19 @@ fn breaks_oneway(o: &OperationTree) -> bool
 fn judged(
     alloc: Global,
     scopes: &Scopes,
-    env: &[Scope],
-    d: u32,
+    at: At,
     ops: &Offers,
     o: &OperationTree,
 ) -> Result<Ty, NameErr>
-    ensures { Gives seen result (judged_on d env.now scopes.now (map plain_offer ops.now) o.now) }
+    ensures { Gives seen result
+        (judged_on at.entry.d at.entry.env.now scopes.now (map plain_offer ops.now) o.now) }
 {
-    refuse(NameFault::Oneway, d, breaks_oneway(o))?;
-    let ty = result_of(alloc, scopes, env, d, &o.result)?;
+    refuse(NameFault::Oneway, at.d, breaks_oneway(o))?;
+    let ty = result_of(alloc, scopes, at, &o.result)?;
     let name = o.name.name.as_slice();
-    let clash = own_clash(alloc, scopes, innermost(env), name, ops)?;
-    refuse_fault(d, clash)?;
-    refuse(NameFault::Limit, d, ops.len() >= MOST_OPERATIONS)?;
+    let clash = own_clash(alloc, scopes, innermost(at.env), name, ops)?;
+    refuse_fault(at.d, clash)?;
+    refuse(NameFault::Limit, at.d, ops.len() >= MOST_OPERATIONS)?;
     Ok(ty)
 }
 
@@ -116,53 +115,45 @@ fn signed(
     alloc: Global,
     scopes: &mut Scopes,
     exceptions: &Raises,
-    env: &[Scope],
-    d: u32,
+    at: At,
     o: &OperationTree,
     ty: Ty,
 ) -> Result<Operation, NameErr>
     ensures { Gives (λ p. (scopes.new, plain_operation p)) result
-        (signed_on d env.now scopes.old (map plain_raise exceptions.now) o.now (seen ty)) }
+        (signed_on at.entry.d at.entry.env.now scopes.old (map plain_raise exceptions.now) o.now (seen ty)) }
 {
     let mut ins = Fields::new(alloc);
     let mut outs = Fields::new(alloc);
     parameters(
         alloc,
         scopes,
-        env,
-        d,
+        at,
         &mut ins,
         &mut outs,
         o.parameters.as_slice(),
     )?;
-    let raises = raises(alloc, scopes, exceptions, env, d, o.raises.as_slice())?;
+    let raises = raises(alloc, scopes, exceptions, at, o.raises.as_slice())?;
     Ok(operation_of(alloc, o, ins, outs, ty, raises)?)
 }
 
 /// Declares an operation, and at its end its name.
 pub(crate) fn operation(
     alloc: Global,
-    env: &[Scope],
-    d: u32,
+    at: At,
     home: u32,
     shapes: &mut Shapes,
     ops: &mut Offers,
     o: &OperationTree,
 ) -> Result<(), NameErr>
     ensures { Gives (λ _. body shapes.new ops.new) result
-        (operation_on d env.now home (body shapes.old ops.old) o.now) }
+        (operation_on at.entry.d at.entry.env.now home (body shapes.old ops.old) o.now) }
 {
-    let ty = judged(alloc, &shapes.scopes, env, d, ops, o)?;
-    let inner = inside(alloc, env, o.name.name.as_slice())?;
-    let inner = inner.as_slice();
-    let made = signed(
-        alloc,
-        &mut shapes.scopes,
-        &shapes.exceptions,
-        inner,
-        d,
-        o,
-        ty,
-    )?;
-    offer(alloc, d, innermost(env), home, shapes, ops, made)
+    let ty = judged(alloc, &shapes.scopes, at, ops, o)?;
+    let inner = inside(alloc, at.env, o.name.name.as_slice())?;
+    let inner = At {
+        env: inner.as_slice(),
+        d: at.d,
+    };
+    let made = signed(alloc, &mut shapes.scopes, &shapes.exceptions, inner, o, ty)?;
+    offer(alloc, at.d, innermost(at.env), home, shapes, ops, made)
 }

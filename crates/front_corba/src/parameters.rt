@@ -11,8 +11,8 @@ ghost use Rattle.front_corba.specs.Parameters.{goes_in, comes_out, are_in, with_
 use crate::copies::{copy_name, share_raise};
 use crate::{NameErr, NameFault};
 use aoi::{Field, Fields, Raise, Raises};
-use corba_scopes::{Entry, Meaning, Scope, Scopes, innermost};
-use corba_shapes::{Form, form_ty, type_form};
+use corba_scopes::{Entry, Meaning, Scopes, innermost};
+use corba_shapes::{At, Form, form_ty, type_form};
 use corba_syntax::{Direction, Parameter, Reference};
 use idl_names::refuse;
 use kit_base::NoMemory;
@@ -82,20 +82,19 @@ fn add_field(
 fn parameter(
     alloc: Global,
     scopes: &mut Scopes,
-    env: &[Scope],
-    d: u32,
+    at: At,
     ins: &mut Fields,
     outs: &mut Fields,
     p: &Parameter,
 ) -> Result<(), NameErr>
     ensures { Gives
         (λ _. record { names = scopes.new; ins = map seen_field ins.new; outs = map seen_field outs.new })
-        result (parameter_on env.now d
+        result (parameter_on at.entry.env.now at.entry.d
         (record { names = scopes.old; ins = map seen_field ins.old; outs = map seen_field outs.old }) p.now) }
 {
-    let form = type_form(alloc, scopes, env, d, &p.of)?;
+    let form = type_form(alloc, scopes, at, &p.of)?;
     let name = p.name.name.as_slice();
-    scopes.declare_new(alloc, d, innermost(env), name, Meaning::Other)?;
+    scopes.declare_new(alloc, at.d, innermost(at.env), name, Meaning::Other)?;
     add_field(alloc, goes_in(p.direction), ins, name, &form)?;
     add_field(alloc, comes_out(p.direction), outs, name, &form)?;
     Ok(())
@@ -105,20 +104,19 @@ fn parameter(
 pub(crate) fn parameters(
     alloc: Global,
     scopes: &mut Scopes,
-    env: &[Scope],
-    d: u32,
+    at: At,
     ins: &mut Fields,
     outs: &mut Fields,
     list: &[Parameter],
 ) -> Result<(), NameErr>
     ensures { Gives
         (λ _. record { names = scopes.new; ins = map seen_field ins.new; outs = map seen_field outs.new })
-        result (parameters_on env.now d
+        result (parameters_on at.entry.env.now at.entry.d
         (record { names = scopes.old; ins = map seen_field ins.old; outs = map seen_field outs.old })
         list.now) }
 {
     for p in list {
-        parameter(alloc, scopes, env, d, ins, outs, p)?;
+        parameter(alloc, scopes, at, ins, outs, p)?;
     }
     Ok(())
 }
@@ -160,18 +158,17 @@ fn raise(
     alloc: Global,
     scopes: &Scopes,
     exceptions: &Raises,
-    env: &[Scope],
-    d: u32,
+    at: At,
     raises: &mut Raises,
     reference: &Reference,
 ) -> Result<(), NameErr>
     ensures { Gives (λ _. map plain_raise raises.new) result
-        (raised_by scopes.now (map plain_raise exceptions.now) env.now d (map plain_raise raises.old)
-        reference.now) }
+        (raised_by scopes.now (map plain_raise exceptions.now) at.entry.env.now at.entry.d
+        (map plain_raise raises.old) reference.now) }
 {
-    let entry = scopes.named(alloc, env, &reference.name)?;
-    let k = exception_at(d, &entry)?;
-    refuse(NameFault::Limit, d, raises.len() >= MOST_RAISES)?;
+    let entry = scopes.named(alloc, at.env, &reference.name)?;
+    let k = exception_at(at.d, &entry)?;
+    refuse(NameFault::Limit, at.d, raises.len() >= MOST_RAISES)?;
     add_raise(raises, exceptions.get(k as usize))?;
     Ok(())
 }
@@ -181,16 +178,15 @@ pub(crate) fn raises(
     alloc: Global,
     scopes: &Scopes,
     exceptions: &Raises,
-    env: &[Scope],
-    d: u32,
+    at: At,
     list: &[Reference],
 ) -> Result<Raises, NameErr>
     ensures { Gives (map plain_raise) result
-        (raises_on scopes.now (map plain_raise exceptions.now) env.now d [] list.now) }
+        (raises_on scopes.now (map plain_raise exceptions.now) at.entry.env.now at.entry.d [] list.now) }
 {
     let mut raises = Raises::new(alloc);
     for reference in list {
-        raise(alloc, scopes, exceptions, env, d, &mut raises, reference)?;
+        raise(alloc, scopes, exceptions, at, &mut raises, reference)?;
     }
     Ok(raises)
 }

@@ -19,7 +19,7 @@ use crate::interfaces::interface;
 use crate::state::{Offer, Offering, Resolver};
 use aoi::{Interface, Operations, Unit, UnitErr};
 use corba_scopes::{Entry, Meaning, Scope, Scopes, innermost, inside, of_file};
-use corba_shapes::declare;
+use corba_shapes::{At, declare};
 use corba_syntax::{Definition, Module, Tree};
 use kit_base::NoMemory;
 use std::alloc::Global;
@@ -72,11 +72,11 @@ fn define(alloc: Global, r: &mut Resolver, env: &[Scope], def: &Definition) -> R
         Definition::Module(m) => module(alloc, r, env, m),
         Definition::Interface(i) => {
             let d = r.shapes.count;
-            interface(alloc, r, env, d, i)
+            interface(alloc, r, At { env, d }, i)
         }
         Definition::Declaration(x) => {
             let d = r.shapes.count;
-            declare(alloc, &mut r.shapes, env, d, x)
+            declare(alloc, &mut r.shapes, At { env, d }, x)
         }
     }
 }

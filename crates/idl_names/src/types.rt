@@ -6,6 +6,7 @@ ghost use Rattle.aoi.specs.Shapes.{seen, array, arrayed, optional, structure, me
 
 use aoi::{Counts, Fields, Items, Ty, UnionArms};
 use kit_base::NoMemory;
+use kit_shared::Shared;
 use mint::kind::Count;
 use std::alloc::Global;
 
@@ -16,12 +17,17 @@ pub fn array_of(alloc: Global, item: Ty, count: Count) -> Result<Ty, NoMemory>
     Ok(Ty::Array(Box::new(alloc, item)?, count))
 }
 
-/// Arrays of arrays: elements of one type, in rows of rows, the counts from the outside in.
-pub fn arrays_of(alloc: Global, item: Ty, count: Count, within: &[Count]) -> Result<Ty, NoMemory>
+/// Arrays of arrays: elements of one type, in rows of rows, the counts from the outside in. The type is one more owner
+/// of the counts within the outermost.
+pub fn arrays_of(
+    alloc: Global,
+    item: Ty,
+    count: Count,
+    within: &Shared<Counts>,
+) -> Result<Ty, NoMemory>
     ensures { IfOk result (λ t. seen t ≡ array (arrayed (seen item) within.now) count) }
 {
-    let within = Counts::from_slice(alloc, within)?;
-    Ok(Ty::Arrays(Box::new(alloc, item)?, count, within))
+    Ok(Ty::Arrays(Box::new(alloc, item)?, count, within.share()?))
 }
 
 /// A value of a type, or none.

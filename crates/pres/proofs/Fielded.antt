@@ -1,11 +1,15 @@
 -- The names of fields, by induction on the fields.
-use Rattle.std.proofs.Common.{◌≡◌, ◌<◌, ℕ, zero, suc, List, [], ◌∷◌, length, map, get_or, Option, None, Some, String, string_bytes, refl, ap, sym, ◌∙◌, subst, arith}
+use Rattle.std.proofs.Common.{◌≡◌, ◌<◌, ℕ, zero, suc, List, [], ◌∷◌, length, map, get_or, String, string_bytes, refl, ap, sym, ◌∙◌, subst, arith}
 use Rattle.std.specs.Prelude.{slice_index_or}
+use Rattle.std.specs.declared.alloc.Global.{Global}
 use Rattle.std.specs.Str.{IsAscii}
 use Rattle.aoi.specs.declared.types.Field.{Field}
 use Rattle.aoi.specs.Shapes.{Shape, members}
 use Rattle.aoi.specs.Sound.{names_of}
-use Rattle.pres.specs.Fielded.{AreTexts, names_held}
+use Rattle.pres.specs.declared.held.Held.{Held}
+use Rattle.pres.specs.declared.held.Held.TheVariants.{Own, Texted, Members}
+use Rattle.pres.specs.declared.held.NamesAndTexts.{NamesAndTexts}
+use Rattle.pres.specs.Fielded.{AreTexted, names_held}
 use Rattle.pres.specs.Tables.{AreAscii, text_of, texts_of}
 use Rattle.pres.proofs.Drawn.{field_seen}
 use Rattle.pres.proofs.Tabled.{text_at}
@@ -31,25 +35,29 @@ ascii_there (n ∷ ns) zero a h = a.0
 ascii_there (n ∷ ns) (suc i) a h = ascii_there ns i a.1 (omega (arith, h))
 
 -- a place among the names of fields is one among the fields
-pub held_within : (own : List (List ℕ)) (held : Option (List Field)) (fs : List Field) (i : ℕ) → held ≡ Some fs
-    → i < length (names_held own held) → i < length fs
-held_within own None fs i is h = absurd cc
-held_within own (Some gs) fs i is h =
-    let same : gs ≡ fs = cc in
-    subst (λ (l : List Field). i < length l) same (subst (λ (n : ℕ). i < n) (many gs) h)
+pub place_within : (fs : List Field) (i : ℕ) → i < length (names_of (members fs)) → i < length fs
+place_within fs i h = subst (λ (n : ℕ). i < n) (many fs) h
 
 -- the string beside a name
-pub text_held : {Y : Type 0} (names all : List (List ℕ)) (held : Option (List (String Y))) (texts slice : List (String Y)) (i : ℕ)
-    (d : String Y) → names ≡ all → AreTexts names held → held ≡ Some texts → slice ≡ texts → i < length all → d ≡ get_or slice i d
-    → string_bytes d ≡ text_of (slice_index_or all i [])
-text_held names all None texts slice i d e a is s h there = absurd cc
-text_held {Y} names all (Some ts) texts slice i d e a is s h there =
-    let same : texts ≡ ts = cc in
-    let here : map string_bytes ts ≡ texts_of all = subst (λ (l : List (List ℕ)). map string_bytes ts ≡ texts_of l) e a in
-    ap string_bytes there ∙ ap (λ (l : List (String Y)). string_bytes (get_or l i d)) (s ∙ same) ∙ text_at ts all i d here h
+pub text_held : (held : Held) (both : NamesAndTexts) (slice : List (String Global)) (i : ℕ) (d : String Global) → held ≡ Texted both
+    → AreTexted held → slice ≡ both.texts → i < length (names_held held) → d ≡ get_or slice i d
+    → string_bytes d ≡ text_of (slice_index_or (names_held held) i [])
+text_held held both slice i d is texts same place there =
+    let texts_are : map string_bytes both.texts ≡ texts_of both.names = subst AreTexted is texts in
+    let within : i < length both.names = subst (λ (h : Held). i < length (names_held h)) is place in
+    ap string_bytes there ∙ ap (λ (l : List (String Global)). string_bytes (get_or l i d)) same
+    ∙ text_at both.texts both.names i d texts_are within
+    ∙ ap (λ (h : Held). text_of (slice_index_or (names_held h) i [])) (sym is)
 
--- where no string is beside the names, each is of ASCII
-pub ascii_held : {Y : Type 0} (names all : List (List ℕ)) (held : Option (List (String Y))) (i : ℕ) (name : List ℕ) → names ≡ all
-    → AreTexts names held → held ≡ None → i < length all → name ≡ slice_index_or all i [] → IsAscii name
-ascii_held names all None i name e a is h there = subst IsAscii (sym there) (ascii_there all i (subst AreAscii e a) h)
-ascii_held names all (Some ts) i name e a is h there = absurd cc
+-- names of a table's own, without strings, are of ASCII
+pub ascii_own : (held : Held) (names : List (List ℕ)) → held ≡ Own names → AreTexted held → AreAscii (names_held held)
+ascii_own held names is texts = subst (λ (h : Held). AreAscii (names_held h)) (sym is) (subst AreTexted is texts)
+
+-- names of an exception's members are of ASCII
+pub ascii_members : (held : Held) (fs : List Field) → held ≡ Members fs → AreTexted held → AreAscii (names_held held)
+ascii_members held fs is texts = subst (λ (h : Held). AreAscii (names_held h)) (sym is) (subst AreTexted is texts)
+
+-- a name of those of ASCII is of ASCII
+pub ascii_name : (names : List (List ℕ)) (i : ℕ) (name : List ℕ) → AreAscii names → i < length names
+    → name ≡ slice_index_or names i [] → IsAscii name
+ascii_name names i name all place there = subst IsAscii (sym there) (ascii_there names i all place)

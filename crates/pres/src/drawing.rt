@@ -12,9 +12,9 @@ ghost use Rattle.pres.specs.Offers.{face_of, arms_of, sign_in};
 
 use crate::draft::Draft;
 use crate::elements::Element;
-use crate::naming::{copy_items, field_names, member_names};
+use crate::naming::{field_names, item_table, member_names};
 use crate::sorting::{labels_of, put_arm};
-use crate::{BindErr, FieldTable, ItemTable, Shape};
+use crate::{BindErr, FieldTable, Shape};
 use aoi::{Field, Items, RaiseFields, Ty};
 use kit_base::NoMemory;
 use kit_shared::Shared;
@@ -63,8 +63,7 @@ impl Draft {
             (λ e. Overflows (drawn self.old ++ made (known self.old) (enumeration items.now)) e) }
     {
         let labels = labels_of(alloc, items.as_slice())?;
-        let names = copy_items(alloc, items.as_slice())?;
-        let table = ItemTable::new(alloc, names)?;
+        let table = item_table(alloc, items.as_slice())?;
         self.push(Node::Enum(labels), Shape::LabelNames(table))
     }
 

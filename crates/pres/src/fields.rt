@@ -4,34 +4,33 @@ ghost use Rattle.std.specs.Prelude.{◌≡◌, ◌<◌, length, map, true, IfOk,
 ghost use Rattle.std.specs.Str.{IsAscii};
 ghost use Rattle.aoi.specs.Shapes.{members};
 ghost use Rattle.aoi.specs.Sound.{names_of};
-ghost use Rattle.pres.specs.Fielded.{AreTexts, names_held};
+ghost use Rattle.pres.specs.Fielded.{AreTexted, names_held};
 ghost use Rattle.pres.specs.Tables.{AreAscii, text_of, texts_of};
 
+use crate::held::{Held, NamesAndTexts};
 use crate::texts::text_of;
 use aoi::{Field, RaiseFields};
-use kit_base::{Listed, NoMemory, Octets, Words};
+use kit_base::{Boxed, Listed, NoMemory, Octets, Words};
 use kit_shared::Shared;
 use std::alloc::Global;
 use std::marker::Model;
 
-/// The names of fields in order: of its own, or those of an exception's members. Each is a string by itself where it is
-/// of ASCII; where one is not, each has its string beside it.
+/// The names of fields in order: of its own, or those of an exception's members. Each is a string by itself where all
+/// are of ASCII; where one is not, each has its string beside it.
 #[derive(Drop)]
 pub struct FieldTable {
-    own: Words,
-    fields: Option<Shared<RaiseFields>>,
-    texts: Option<Listed<String>>,
+    held: Held,
 }
 
 impl Model for FieldTable {
     ghost use Rattle.std.specs.Prelude.{ℕ, List};
-    ghost use Rattle.pres.specs.Fielded.{AreTexts, names_held};
+    ghost use Rattle.pres.specs.Fielded.{AreTexted, names_held};
 
     ghost Value = { List (List ℕ) };
 
-    ghost view = { λ t. names_held t.own t.fields };
+    ghost view = { λ t. names_held t.held };
 
-    ghost invariant = { λ t. AreTexts (names_held t.own t.fields) t.texts };
+    ghost invariant = { λ t. AreTexted t.held };
 }
 
 /// Whether names are of ASCII.
@@ -57,14 +56,16 @@ fn texts_of(alloc: Global, names: &[Octets]) -> Result<Listed<String>, NoMemory>
     Ok(texts)
 }
 
-/// The strings of names, where one is not of ASCII.
-fn strings(alloc: Global, names: &[Octets]) -> Result<Option<Listed<String>>, NoMemory>
-    ensures { IfOk result (λ texts. AreTexts names.now texts) }
+/// Names of a table's own, with their strings where one is not of ASCII.
+fn own_names(alloc: Global, names: Words) -> Result<Held, NoMemory>
+    ensures names { IfOk result (λ held. names_held held ≡ names) }
+    ensures texts { IfOk result (λ held. AreTexted held) }
 {
-    if are_ascii(names) {
-        return Ok(None);
+    if are_ascii(names.as_slice()) {
+        return Ok(Held::Own(names));
     }
-    Ok(Some(texts_of(alloc, names)?))
+    let texts = texts_of(alloc, names.as_slice())?;
+    Ok(Held::Texted(Boxed::new(alloc, NamesAndTexts { names, texts })?))
 }
 
 /// Octets of ASCII as a string.
@@ -83,26 +84,17 @@ impl FieldTable {
     pub(crate) fn new(alloc: Global, names: Words) -> Result<FieldTable, NoMemory>
         ensures { IfOk result (λ t. t ≡ names) }
     {
-        let texts = strings(alloc, names.as_slice())?;
-        Ok(FieldTable {
-            own: names,
-            fields: None,
-            texts,
-        })
+        let held = own_names(alloc, names)?;
+        Ok(FieldTable { held })
     }
 
     /// A table of the names of fields that are of ASCII, of which this is one more owner.
-    pub(crate) fn shared(
-        alloc: Global,
-        fields: &Shared<RaiseFields>,
-    ) -> Result<FieldTable, NoMemory>
+    pub(crate) fn shared(fields: &Shared<RaiseFields>) -> Result<FieldTable, NoMemory>
         requires { AreAscii (names_of (members fields.now)) }
         ensures { IfOk result (λ t. t ≡ names_of (members fields.now)) }
     {
         Ok(FieldTable {
-            own: Words::new(alloc),
-            fields: Some(fields.share()?),
-            texts: None,
+            held: Held::Members(fields.share()?),
         })
     }
 
@@ -110,7 +102,7 @@ impl FieldTable {
     pub fn len(&self) -> usize
         ensures { result ≡ length self.now }
     {
-        held_len(&self.own, &self.fields)
+        held_len(&self.held)
     }
 
     /// The name at a place.
@@ -118,7 +110,7 @@ impl FieldTable {
         requires { i < length self.now }
         ensures { result.now ≡ slice_index_or self.now i [] }
     {
-        held_name(&self.own, &self.fields, i)
+        held_name(&self.held, i)
     }
 
     /// The string of the name at a place.
@@ -126,10 +118,7 @@ impl FieldTable {
         requires { i < length self.now }
         ensures { result.now ≡ text_of (slice_index_or self.now i []) }
     {
-        match &self.texts {
-            Some(texts) => texts.as_slice()[i].as_str(),
-            None => as_text(self.name(i)),
-        }
+        held_text(&self.held, i)
     }
 }
 
@@ -142,29 +131,44 @@ fn count_of(fields: &[Field]) -> usize
 
 /// The name of a field.
 fn name_at(fields: &[Field], i: usize) -> &[u8]
-    requires { i < length fields.now }
+    requires { i < length (names_of (members fields.now)) }
     ensures { result.now ≡ slice_index_or (names_of (members fields.now)) i [] }
 {
     fields[i].name.as_slice()
 }
 
 /// How many names are held.
-fn held_len(own: &Words, fields: &Option<Shared<RaiseFields>>) -> usize
-    ensures { result ≡ length (names_held own.now fields.now) }
+fn held_len(held: &Held) -> usize
+    ensures { result ≡ length (names_held held.now) }
 {
-    match fields {
-        Some(fields) => count_of(fields.get().as_slice()),
-        None => own.len(),
+    match held {
+        Held::Own(names) => names.len(),
+        Held::Texted(both) => both.names.len(),
+        Held::Members(fields) => count_of(fields.get().as_slice()),
     }
 }
 
 /// The name that is held at a place.
-fn held_name<'a>(own: &'a Words, fields: &'a Option<Shared<RaiseFields>>, i: usize) -> &'a [u8]
-    requires { i < length (names_held own.now fields.now) }
-    ensures { result.now ≡ slice_index_or (names_held own.now fields.now) i [] }
+fn held_name(held: &Held, i: usize) -> &[u8]
+    requires { i < length (names_held held.now) }
+    ensures { result.now ≡ slice_index_or (names_held held.now) i [] }
 {
-    match fields {
-        Some(fields) => name_at(fields.get().as_slice(), i),
-        None => own.as_slice()[i].as_slice(),
+    match held {
+        Held::Own(names) => names.as_slice()[i].as_slice(),
+        Held::Texted(both) => both.names.as_slice()[i].as_slice(),
+        Held::Members(fields) => name_at(fields.get().as_slice(), i),
+    }
+}
+
+/// The string of the name that is held at a place.
+fn held_text(held: &Held, i: usize) -> &str
+    requires texts { AreTexted held.now }
+    requires place { i < length (names_held held.now) }
+    ensures { result.now ≡ text_of (slice_index_or (names_held held.now) i []) }
+{
+    match held {
+        Held::Own(_) => as_text(held_name(held, i)),
+        Held::Texted(both) => both.texts.as_slice()[i].as_str(),
+        Held::Members(_) => as_text(held_name(held, i)),
     }
 }

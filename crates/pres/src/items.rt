@@ -9,17 +9,24 @@ ghost use Rattle.pres.specs.Tables.{AreFound, FindsNumbers, FindsTexts, number_n
 use crate::texts::text_of;
 use aoi::Items;
 use kit_base::{Name, NoMemory};
+use kit_shared::Shared;
 use std::alloc::Global;
 use std::collections::BTreeMap;
 use std::marker::Model;
 
-/// The items of an enum as they are declared. A name, as a string, and a number are found without a
-/// look at each item.
+/// Items, with what finds them.
 #[derive(Drop)]
-pub struct ItemTable {
+struct Found {
     items: Items,
     numbers: BTreeMap<String, i128>,
     texts: BTreeMap<i128, String>,
+}
+
+/// The items of an enum as they are declared, kept once for all owners of the table. A name, as a string, and a number
+/// are found without a look at each item.
+#[derive(Drop)]
+pub struct ItemTable {
+    found: Shared<Found>,
 }
 
 impl Model for ItemTable {
@@ -27,9 +34,9 @@ impl Model for ItemTable {
 
     ghost Value = { ItemList };
 
-    ghost view = { λ t. t.items };
+    ghost view = { λ t. t.found.items };
 
-    ghost invariant = { λ t. AreFound t.items t.numbers t.texts };
+    ghost invariant = { λ t. AreFound t.found.items t.found.numbers t.found.texts };
 }
 
 fn wide(n: &i32) -> i128
@@ -101,6 +108,28 @@ fn put_texts(
     Ok(())
 }
 
+/// The number of the first item whose name a string is.
+fn number_in(found: &Found, text: &str) -> Option<i128>
+    requires { FindsNumbers found.now.items found.now.numbers }
+    ensures { result ≡ number_named found.now.items text.now }
+{
+    match found.numbers.get(text) {
+        Some(n) => Some(*n),
+        None => None,
+    }
+}
+
+/// The name of the first item with a number, as a string.
+fn text_in<'a>(found: &'a Found, n: &i128) -> Option<&'a str>
+    requires { FindsTexts found.now.items found.now.texts }
+    ensures { option_map (λ s. s.now) result ≡ text_numbered found.now.items n.now }
+{
+    match found.texts.get(n) {
+        Some(text) => Some(text.as_str()),
+        None => None,
+    }
+}
+
 impl ItemTable {
     /// A table of items.
     pub(crate) fn new(alloc: Global, items: Items) -> Result<ItemTable, NoMemory>
@@ -110,10 +139,22 @@ impl ItemTable {
         let mut texts = BTreeMap::new(alloc);
         put_numbers(alloc, &mut numbers, items.as_slice())?;
         put_texts(alloc, &mut texts, items.as_slice())?;
-        Ok(ItemTable {
+        let found = Found {
             items,
             numbers,
             texts,
+        };
+        Ok(ItemTable {
+            found: Shared::new(alloc, found)?,
+        })
+    }
+
+    /// One more owner of the table.
+    pub(crate) fn share(&self) -> Result<ItemTable, NoMemory>
+        ensures { IfOk result (λ t. t ≡ self.now) }
+    {
+        Ok(ItemTable {
+            found: self.found.share()?,
         })
     }
 
@@ -121,26 +162,20 @@ impl ItemTable {
     pub fn as_slice(&self) -> &[(Name, i32)]
         ensures { result.now ≡ self.now }
     {
-        self.items.as_slice()
+        self.found.get().items.as_slice()
     }
 
     /// The number of the first item whose name a string is.
     pub fn number(&self, text: &str) -> Option<i128>
         ensures { result ≡ number_named self.now text.now }
     {
-        match self.numbers.get(text) {
-            Some(n) => Some(*n),
-            None => None,
-        }
+        number_in(self.found.get(), text)
     }
 
     /// The name of the first item with a number, as a string.
     pub fn text(&self, n: &i128) -> Option<&str>
         ensures { option_map (λ s. s.now) result ≡ text_numbered self.now n.now }
     {
-        match self.texts.get(n) {
-            Some(text) => Some(text.as_str()),
-            None => None,
-        }
+        text_in(self.found.get(), n)
     }
 }

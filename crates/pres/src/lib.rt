@@ -10,6 +10,7 @@ mod elements;
 mod errors;
 mod faults;
 mod fields;
+mod held;
 mod items;
 mod laws;
 mod messages;

@@ -3,15 +3,14 @@
 ghost use Rattle.std.specs.Prelude.{◌≡◌, map, IfOk, IsTrue};
 ghost use Rattle.aoi.specs.Shapes.{members};
 ghost use Rattle.aoi.specs.Sound.{are_distinct, names_of};
-ghost use Rattle.pres.specs.Faces.{item, sign_of};
+ghost use Rattle.pres.specs.Faces.{item, labels_of, sign_of};
 ghost use Rattle.pres.specs.Named.{IsTagShape};
 
-use crate::sorting::labels_of;
 use crate::{FieldTable, ItemTable, Shape};
 use aoi::{Field, Items, RaiseFields};
 use kit_base::{Name, NoMemory, Words};
 use kit_shared::Shared;
-use mint::node::Tag;
+use mint::node::{Labels, Tag};
 use std::alloc::Global;
 
 /// A copy of a name.
@@ -50,13 +49,13 @@ pub(crate) fn member_names(
     ensures { IfOk result (λ ws. ws ≡ names_of (members fields.now)) }
 {
     if fields.get().are_ascii() {
-        return FieldTable::shared(alloc, fields);
+        return FieldTable::shared(fields);
     }
     field_names(alloc, fields.get().as_slice())
 }
 
 /// A copy of the items of an enum.
-pub(crate) fn copy_items(alloc: Global, items: &[(Name, i32)]) -> Result<Items, NoMemory>
+fn copy_items(alloc: Global, items: &[(Name, i32)]) -> Result<Items, NoMemory>
     ensures { IfOk result (λ is. is ≡ items.now) }
 {
     let mut copies = Items::new(alloc);
@@ -66,14 +65,20 @@ pub(crate) fn copy_items(alloc: Global, items: &[(Name, i32)]) -> Result<Items, 
     Ok(copies)
 }
 
-/// The tag that is an enum.
-pub(crate) fn enum_tag(alloc: Global, items: &[(Name, i32)]) -> Result<(Tag, Shape), NoMemory>
-    requires { IsTrue (are_distinct (map (λ i. i.0) items.now)) }
-    ensures named { IfOk result (λ t. IsTagShape t.0 t.1) }
-    ensures sign { IfOk result (λ t. sign_of t.0 t.1 ≡ item items.now) }
+/// A table of the items of an enum.
+pub(crate) fn item_table(alloc: Global, items: &[(Name, i32)]) -> Result<ItemTable, NoMemory>
+    ensures { IfOk result (λ t. t ≡ items.now) }
 {
-    let labels = labels_of(alloc, items)?;
     let names = copy_items(alloc, items)?;
-    let table = ItemTable::new(alloc, names)?;
-    Ok((Tag::Enum(labels), Shape::LabelNames(table)))
+    ItemTable::new(alloc, names)
+}
+
+/// The tag that is an enum.
+pub(crate) fn enum_tag(labels: Labels, items: ItemTable) -> (Tag, Shape)
+    requires labels { labels ≡ labels_of items }
+    requires distinct { IsTrue (are_distinct (map (λ i. i.0) items)) }
+    ensures named { IsTagShape result.0 result.1 }
+    ensures sign { sign_of result.0 result.1 ≡ item items }
+{
+    (Tag::Enum(labels), Shape::LabelNames(items))
 }

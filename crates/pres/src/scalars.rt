@@ -1,21 +1,22 @@
 //! What types stand for where they are scalars.
 
 ghost use Rattle.std.specs.Prelude.{◌≡◌, ◌<◌, map, length, IfOk, IsTrue, Some, IfSome};
-ghost use Rattle.std.specs.Option.{option_copied};
+ghost use Rattle.std.specs.Option.{option_map};
 ghost use Rattle.aoi.specs.Shapes.{seen};
 ghost use Rattle.aoi.specs.Sound.{are_distinct};
 ghost use Rattle.pres.specs.Drafts.{drawn, known, is_drawable, number_in, enum_in};
-ghost use Rattle.pres.specs.Faces.{at, sign_of, scalar, number};
+ghost use Rattle.pres.specs.Faces.{at, labels_of, sign_of, scalar, number};
 ghost use Rattle.pres.specs.Named.{IsTagShape};
 ghost use Rattle.pres.specs.Offers.{face_of, packed, sign_in};
 
-use crate::Shape;
 use crate::draft::Draft;
-use crate::naming::enum_tag;
+use crate::naming::{enum_tag, item_table};
+use crate::sorting::{copy_labels, labels_of};
+use crate::{ItemTable, Shape};
 use aoi::Ty;
-use kit_base::{Name, NoMemory};
+use kit_base::NoMemory;
 use mint::kind::Kind;
-use mint::node::{Node, Tag};
+use mint::node::{Labels, Node, Tag};
 use mint::table::NodeId;
 use std::alloc::Global;
 
@@ -41,16 +42,35 @@ impl Draft {
         }
     }
 
-    /// The items of a node that is an enum.
-    fn node_items(&self, id: NodeId) -> Option<&[(Name, i32)]>
+    /// The labels and the items of a node that is an enum.
+    fn node_enum(&self, id: NodeId) -> Option<(&Labels, &ItemTable)>
         requires { id < length (drawn self.now) }
-        ensures value { option_copied result ≡ enum_in (at (drawn self.now) id) }
-        ensures distinct { IfSome result (λ items. IsTrue (are_distinct (map (λ i. i.0) items.now))) }
+        ensures value { option_map (λ p. p.1.now) result ≡ enum_in (at (drawn self.now) id) }
+        ensures labels { IfSome result (λ p. p.0.now ≡ labels_of p.1.now) }
+        ensures distinct { IfSome result (λ p. IsTrue (are_distinct (map (λ i. i.0) p.1.now))) }
     {
         let entry = self.entry(id);
         match (&entry.node, &entry.shape) {
-            (Node::Enum(_), Shape::LabelNames(items)) => Some(items.as_slice()),
+            (Node::Enum(labels), Shape::LabelNames(items)) => Some((labels, items)),
             _ => None,
+        }
+    }
+
+    /// A copy of the labels of a node that is an enum, and its items, with one more owner.
+    fn shared_enum(
+        &self,
+        alloc: Global,
+        id: NodeId,
+    ) -> Result<Option<(Labels, ItemTable)>, NoMemory>
+        requires { id < length (drawn self.now) }
+        ensures value { IfOk result (λ o. option_map (λ p. p.1) o ≡ enum_in (at (drawn self.now) id)) }
+        ensures labels { IfOk result (λ o. IfSome o (λ p. p.0 ≡ labels_of p.1)) }
+        ensures distinct { IfOk result
+            (λ o. IfSome o (λ p. IsTrue (are_distinct (map (λ i. i.0) p.1)))) }
+    {
+        match self.node_enum(id) {
+            Some((labels, items)) => Ok(Some((copy_labels(alloc, labels)?, items.share()?))),
+            None => Ok(None),
         }
     }
 
@@ -66,16 +86,23 @@ impl Draft {
         }
     }
 
-    /// The items of a type that is an enum.
-    fn items<'a>(&'a self, ty: &'a Ty) -> Option<&'a [(Name, i32)]>
+    /// The labels and the items of a type that is an enum. Those of a type by its number are its node's, which are not
+    /// sorted again.
+    fn enum_of(&self, alloc: Global, ty: &Ty) -> Result<Option<(Labels, ItemTable)>, NoMemory>
         requires { IsTrue (is_drawable (length (known self.now)) (seen ty.now)) }
-        ensures value { option_copied result ≡ enum_in (face_of (known self.now) (seen ty.now)) }
-        ensures distinct { IfSome result (λ items. IsTrue (are_distinct (map (λ i. i.0) items.now))) }
+        ensures value { IfOk result
+            (λ o. option_map (λ p. p.1) o ≡ enum_in (face_of (known self.now) (seen ty.now))) }
+        ensures labels { IfOk result (λ o. IfSome o (λ p. p.0 ≡ labels_of p.1)) }
+        ensures distinct { IfOk result
+            (λ o. IfSome o (λ p. IsTrue (are_distinct (map (λ i. i.0) p.1)))) }
     {
         match ty {
-            Ty::Enum(items) => Some(items.as_slice()),
-            Ty::Named(k) => self.node_items(self.type_node(*k)),
-            _ => None,
+            Ty::Enum(items) => Ok(Some((
+                labels_of(alloc, items.as_slice())?,
+                item_table(alloc, items.as_slice())?,
+            ))),
+            Ty::Named(k) => self.shared_enum(alloc, self.type_node(*k)),
+            _ => Ok(None),
         }
     }
 
@@ -96,8 +123,9 @@ impl Draft {
         ensures named { IfOk result (λ t. IsTagShape t.0 t.1) }
         ensures sign { IfOk result (λ t. sign_of t.0 t.1 ≡ sign_in (face_of (known self.now) (seen ty.now))) }
     {
-        match self.items(ty) {
-            Some(items) => enum_tag(alloc, items),
+        let parts = self.enum_of(alloc, ty)?;
+        match parts {
+            Some((labels, items)) => Ok(enum_tag(labels, items)),
             None => Ok((Tag::Num(self.kind(ty).unwrap_or(Kind::U32)), Shape::Plain)),
         }
     }

@@ -1,6 +1,6 @@
 use Rattle.std.proofs.Common.{◌≡◌, ◌+◌, ◌-◌, sym, ◌∙◌, arith, zero, ap}
 use Rattle.corba_scopes.specs.Parted.{cut_within}
-use Rattle.corba_scopes.proofs.Parting.{cut_before, cut_here}
+use Rattle.corba_scopes.proofs.Cutting.{cut_before, cut_here}
 use Rattle.corba_scopes.proofs.prefixes.last_cut.Goals as goal
 
 pub returns-then-front-end-eq46-clause-value : goal.returns-then-front-end-eq46-clause-value
