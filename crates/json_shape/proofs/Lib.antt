@@ -50,10 +50,12 @@ pub mod RecordTokens
 pub mod Seeking
 -- * Integers of at most 64 bits that are read of the texts of numbers, by induction on the digits
 pub mod UsualDigits
--- * Numbers, items, texts and rows that are read of text in the usual form
+-- * Numbers, items, texts and rows that are read of tokens in the usual form
 pub mod UsualTexts
--- * What is read of text in the usual form, by induction on items and on members
+-- * What is read of tokens of text in the usual form, by induction on items and on members
 pub mod UsualReading
+-- * Unions and optional values that are read of tokens in the usual form, by cases on what is there
+pub mod UsualUnions
 -- The members of request records in the usual form, by cases on what is there
 pub mod UsualMembers
 -- * Request records in the usual form

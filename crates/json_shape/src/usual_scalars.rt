@@ -1,40 +1,42 @@
-//! Numbers, items, texts and rows from text in the usual form.
+//! Numbers, items, texts and rows from tokens of text in the usual form.
 
-ghost use Rattle.std.specs.Prelude.{◌≡◌, [], ◌∷◌, ◌++◌, true, Some, IfOk, OnOk};
-ghost use Rattle.json.specs.Value.{value_view};
+ghost use Rattle.std.specs.Prelude.{◌≡◌, ◌<◌, [], ◌∷◌, ◌++◌, true, IfOk, OnOk, length};
 ghost use Rattle.mint.specs.declared.kind.Kind.TheVariants as kind;
 ghost use Rattle.mint.specs.Kinds.{in_range};
-ghost use Rattle.pres.specs.Faces.{items_in, number, item};
+ghost use Rattle.pres.specs.Faces.{items_in, number, item, sign_of};
 ghost use Rattle.json_shape.specs.Scalars.{flag, number_in, row_in, sign_in, whole_in};
-ghost use Rattle.json_shape.specs.Usual.{listed_in, IsRead};
+ghost use Rattle.json_shape.specs.Usual.{listed_in, Reads};
 
 use crate::errors::{Halt, Unusual};
 use crate::rows::block;
 use crate::scalars::number_named;
 use crate::texts::octets_of;
 use crate::usual_digits::integer;
-use crate::usual_tokens::{boolean_in, digits_in, items_in, string_in};
-use json::Value as Tree;
+use crate::usual_tokens::{begin_items, boolean_next, digits_next, string_next};
+use json::Reader;
 use mint::kind::Kind;
+use mint::node::Tag;
 use mint::row::Row;
 use pres::Shape;
 use std::alloc::Global;
 
-/// The number of a kind that the text is; letters are read by the tree.
-pub(crate) fn number(kind: Kind, tree: &Tree<'_>) -> Result<i128, Unusual>
-    ensures { IfOk result (λ n. IsRead (value_view tree.now) (sign_in (number kind)) n) }
+/// The number of a kind that comes next; letters are read by the tree.
+pub(crate) fn number(kind: Kind, reader: &mut Reader<'_>) -> Result<i128, Unusual>
+    ensures value { IfOk result (λ n. Reads 0 reader.old reader.new (sign_in (number kind)) n) }
+    ensures shorter { OnOk result (length reader.new < length reader.old) }
 {
     match kind {
-        Kind::Bool => truth(tree),
+        Kind::Bool => truth(reader),
         Kind::Char => Err(Unusual),
-        _ => whole(kind, tree),
+        _ => whole(kind, reader),
     }
 }
 
-fn truth(tree: &Tree<'_>) -> Result<i128, Unusual>
-    ensures { IfOk result (λ n. IsRead (value_view tree.now) (number_in kind.Bool) n) }
+fn truth(reader: &mut Reader<'_>) -> Result<i128, Unusual>
+    ensures value { IfOk result (λ n. Reads 0 reader.old reader.new (number_in kind.Bool) n) }
+    ensures shorter { OnOk result (length reader.new < length reader.old) }
 {
-    let truth = boolean_in(tree)?;
+    let truth = boolean_next(reader)?;
     Ok(flag(truth))
 }
 
@@ -45,10 +47,11 @@ fn flag(truth: bool) -> i128
     if truth { 1 } else { 0 }
 }
 
-fn whole(kind: Kind, tree: &Tree<'_>) -> Result<i128, Unusual>
-    ensures { IfOk result (λ n. IsRead (value_view tree.now) (whole_in kind) n) }
+fn whole(kind: Kind, reader: &mut Reader<'_>) -> Result<i128, Unusual>
+    ensures value { IfOk result (λ n. Reads 0 reader.old reader.new (whole_in kind) n) }
+    ensures shorter { OnOk result (length reader.new < length reader.old) }
 {
-    let digits = digits_in(tree)?;
+    let digits = digits_next(reader)?;
     let Some(n) = integer(digits) else {
         return Err(Unusual);
     };
@@ -65,47 +68,65 @@ fn ranged(kind: Kind, n: i128) -> Result<i128, Unusual>
     if kind.has(n) { Ok(n) } else { Err(Unusual) }
 }
 
-/// The item that the text names.
-pub(crate) fn item(shape: &Shape, tree: &Tree<'_>) -> Result<i128, Halt>
-    ensures { IfOk result (λ n. IsRead (value_view tree.now) (sign_in (item (items_in shape.now))) n) }
+/// The item that the string names which comes next.
+pub(crate) fn item(shape: &Shape, reader: &mut Reader<'_>) -> Result<i128, Halt>
+    ensures { IfOk result (λ n. Reads 0 reader.old reader.new (sign_in (item (items_in shape.now))) n) }
 {
-    let name = string_in(tree)?;
+    let name = string_next(reader)?;
     let n = number_named(shape, name)?;
     Ok(n)
 }
 
-/// The text that the text is.
-pub(crate) fn text(alloc: Global, tree: &Tree<'_>) -> Result<Row, Halt>
-    ensures kind { IfOk result (λ r. r.kind ≡ kind.Char) }
-    ensures numbers { IfOk result (λ r. IsRead (value_view tree.now) (row_in kind.Char) r.numbers) }
+/// The number of a tag that comes next.
+pub(crate) fn sign(tag: &Tag, shape: &Shape, reader: &mut Reader<'_>) -> Result<i128, Halt>
+    ensures { IfOk result (λ n. Reads 0 reader.old reader.new (sign_in (sign_of tag.now shape.now)) n) }
 {
-    let letters = string_in(tree)?;
+    match tag {
+        Tag::Num(kind) => Ok(number(*kind, reader)?),
+        Tag::Enum(_) => item(shape, reader),
+    }
+}
+
+/// The text that comes next.
+pub(crate) fn text(alloc: Global, reader: &mut Reader<'_>) -> Result<Row, Halt>
+    ensures kind { IfOk result (λ r. r.kind ≡ kind.Char) }
+    ensures numbers { IfOk result (λ r. Reads 0 reader.old reader.new (row_in kind.Char) r.numbers) }
+{
+    let letters = string_next(reader)?;
     let octets = octets_of(alloc, letters)?;
     let row = block(alloc, Kind::Char, octets.as_slice())?;
     Ok(row)
 }
 
-/// The row of octets or characters that the text is.
-pub(crate) fn row(alloc: Global, kind: Kind, tree: &Tree<'_>) -> Result<Row, Halt>
+/// The row of numbers, octets or characters that comes next.
+pub(crate) fn row(
+    alloc: Global,
+    kind: Kind,
+    depth: usize,
+    reader: &mut Reader<'_>,
+) -> Result<Row, Halt>
     ensures kind { IfOk result (λ r. r.kind ≡ kind) }
-    ensures numbers { IfOk result (λ r. IsRead (value_view tree.now) (row_in kind) r.numbers) }
+    ensures numbers { IfOk result (λ r. Reads depth reader.old reader.new (row_in kind) r.numbers) }
 {
     match kind {
-        Kind::Octet => octets(alloc, tree),
-        Kind::Char => text(alloc, tree),
-        _ => numbers(alloc, kind, tree),
+        Kind::Octet => octets(alloc, reader),
+        Kind::Char => text(alloc, reader),
+        _ => numbers(alloc, kind, depth, reader),
     }
 }
 
 /// The row of numbers that an array is.
-fn numbers(alloc: Global, kind: Kind, tree: &Tree<'_>) -> Result<Row, Halt>
+fn numbers(alloc: Global, kind: Kind, depth: usize, reader: &mut Reader<'_>) -> Result<Row, Halt>
     ensures kind { IfOk result (λ r. r.kind ≡ kind) }
-    ensures numbers { IfOk result (λ r. IsRead (value_view tree.now) (listed_in kind) r.numbers) }
+    ensures numbers { IfOk result (λ r. Reads depth reader.old reader.new (listed_in kind) r.numbers) }
 {
-    let found = items_in(tree)?;
+    if depth == 0 {
+        return Err(Halt::Fallback);
+    }
+    begin_items(reader)?;
     let mut row = Row::new(alloc, kind);
-    for item in found {
-        let n = number(kind, item)?;
+    while !reader.take_end_array() {
+        let n = number(kind, reader)?;
         push_number(&mut row, &n)?;
     }
     Ok(row)
@@ -125,11 +146,11 @@ fn push_number(row: &mut Row, n: &i128) -> Result<(), Halt>
     }
 }
 
-fn octets(alloc: Global, tree: &Tree<'_>) -> Result<Row, Halt>
+fn octets(alloc: Global, reader: &mut Reader<'_>) -> Result<Row, Halt>
     ensures kind { IfOk result (λ r. r.kind ≡ kind.Octet) }
-    ensures numbers { IfOk result (λ r. IsRead (value_view tree.now) (row_in kind.Octet) r.numbers) }
+    ensures numbers { IfOk result (λ r. Reads 0 reader.old reader.new (row_in kind.Octet) r.numbers) }
 {
-    let digits = string_in(tree)?;
+    let digits = string_next(reader)?;
     let octets = kit_digits::decode(alloc, digits.as_bytes())?;
     let row = block(alloc, Kind::Octet, octets.as_slice())?;
     Ok(row)

@@ -1,91 +1,126 @@
-//! What a tree of text is: a string, a number, a boolean, an array or an object.
+//! The next tokens of text: a string, a number, a boolean, null, and where arrays and objects begin and end.
 
-ghost use Rattle.std.specs.Prelude.{◌≡◌, true, IfOk, OnOk};
-ghost use Rattle.std.specs.Str.{bytes_eq};
-ghost use Rattle.json.specs.Json.{array, boolean, number, object, string};
-ghost use Rattle.json.specs.Value.{value_view, items_view, members_view};
-ghost use Rattle.json_shape.specs.Usual.{member_view, put_some};
+ghost use Rattle.std.specs.Prelude.{◌≡◌, ◌∷◌, IfOk, IsTrue, OnOk};
+ghost use Rattle.json.specs.Token.{begin_array, begin_object, boolean, end_array, end_object, key, null, number, string};
+ghost use Rattle.json_shape.specs.Usual.{key_token};
 
 use crate::errors::Unusual;
-use json::Value as Tree;
+use json::{Reader, Token};
 
-/// The string that it is.
-pub(crate) fn string_in<'a>(tree: &Tree<'a>) -> Result<&'a str, Unusual>
-    ensures { IfOk result (λ s. value_view tree.now ≡ string s.now) }
+/// The string that comes next.
+pub(crate) fn string_next<'a>(reader: &mut Reader<'a>) -> Result<&'a str, Unusual>
+    ensures { IfOk result (λ s. reader.old ≡ string s.now ∷ reader.new) }
 {
-    match tree {
-        Tree::String(text) => Ok(*text),
+    match reader.next() {
+        Some(Token::String(text)) => Ok(text),
         _ => Err(Unusual),
     }
 }
 
-/// The text of the number that it is.
-pub(crate) fn digits_in<'a>(tree: &Tree<'a>) -> Result<&'a str, Unusual>
-    ensures { IfOk result (λ s. value_view tree.now ≡ number s.now) }
+/// The text of the number that comes next.
+pub(crate) fn digits_next<'a>(reader: &mut Reader<'a>) -> Result<&'a str, Unusual>
+    ensures { IfOk result (λ s. reader.old ≡ number s.now ∷ reader.new) }
 {
-    match tree {
-        Tree::Number(digits) => Ok(*digits),
+    match reader.next() {
+        Some(Token::Number(digits)) => Ok(digits),
         _ => Err(Unusual),
     }
 }
 
-/// The boolean that it is.
-pub(crate) fn boolean_in(tree: &Tree<'_>) -> Result<bool, Unusual>
-    ensures { IfOk result (λ b. value_view tree.now ≡ boolean b) }
+/// The boolean that comes next.
+pub(crate) fn boolean_next(reader: &mut Reader<'_>) -> Result<bool, Unusual>
+    ensures { IfOk result (λ b. reader.old ≡ boolean b ∷ reader.new) }
 {
-    match tree {
-        Tree::Bool(truth) => Ok(*truth),
+    match reader.next() {
+        Some(Token::Bool(truth)) => Ok(truth),
         _ => Err(Unusual),
     }
 }
 
-/// The items of the array that it is.
-#[tactic(auto, using(crate::proofs::UsualReading::trees))]
-pub(crate) fn items_in<'v, 'a>(tree: &'v Tree<'a>) -> Result<&'v [Tree<'a>], Unusual>
-    ensures { IfOk result (λ items. value_view tree.now ≡ array (items_view items.now)) }
+/// Takes the null that comes next.
+pub(crate) fn null_next(reader: &mut Reader<'_>) -> Result<(), Unusual>
+    ensures { OnOk result (reader.old ≡ null ∷ reader.new) }
 {
-    match tree {
-        Tree::Array(items) => Ok(items.as_slice()),
+    match reader.next() {
+        Some(Token::Null) => Ok(()),
         _ => Err(Unusual),
     }
 }
 
-/// The members of the object that it is.
-#[tactic(auto, using(crate::proofs::UsualReading::trees))]
-pub(crate) fn members_in<'v, 'a>(tree: &'v Tree<'a>) -> Result<&'v [(&'a str, Tree<'a>)], Unusual>
-    ensures { IfOk result (λ members. value_view tree.now ≡ object (members_view members.now)) }
+/// Takes the bracket that begins an array.
+pub(crate) fn begin_items(reader: &mut Reader<'_>) -> Result<(), Unusual>
+    ensures { OnOk result (reader.old ≡ begin_array ∷ reader.new) }
 {
-    match tree {
-        Tree::Object(members) => Ok(members.as_slice()),
+    match reader.next() {
+        Some(Token::BeginArray) => Ok(()),
         _ => Err(Unusual),
     }
 }
 
-/// The first member, where it has the key, and the members after it; none and all of them where it has another.
-pub(crate) fn leading<'v, 'a>(
-    found: &'v [(&'a str, Tree<'a>)],
-    key: &str,
-) -> (Option<&'v Tree<'a>>, &'v [(&'a str, Tree<'a>)])
-    ensures { members_view found.now
-        ≡ put_some key.now (member_view result.0) (members_view result.1.now) }
+/// Takes the bracket that ends an array.
+pub(crate) fn end_items(reader: &mut Reader<'_>) -> Result<(), Unusual>
+    ensures { OnOk result (reader.old ≡ end_array ∷ reader.new) }
 {
-    match found.split_first() {
-        Some((first, rest)) if first.0 == key => (Some(&first.1), rest),
-        _ => (None, found),
+    match reader.next() {
+        Some(Token::EndArray) => Ok(()),
+        _ => Err(Unusual),
     }
 }
 
-/// The value of a member, where its key is this one.
-pub(crate) fn after_key<'v, 'a>(
-    key: &str,
-    member: &'v (&'a str, Tree<'a>),
-) -> Result<&'v Tree<'a>, Unusual>
-    ensures key { OnOk result (bytes_eq member.now.0.now key.now ≡ true) }
-    ensures tree { IfOk result (λ t. t.now ≡ member.now.1) }
+/// Takes the brace that begins an object.
+pub(crate) fn begin_members(reader: &mut Reader<'_>) -> Result<(), Unusual>
+    ensures { OnOk result (reader.old ≡ begin_object ∷ reader.new) }
 {
-    if member.0 == key {
-        Ok(&member.1)
-    } else {
-        Err(Unusual)
+    match reader.next() {
+        Some(Token::BeginObject) => Ok(()),
+        _ => Err(Unusual),
     }
+}
+
+/// Takes the brace that ends an object.
+pub(crate) fn end_members(reader: &mut Reader<'_>) -> Result<(), Unusual>
+    ensures { OnOk result (reader.old ≡ end_object ∷ reader.new) }
+{
+    match reader.next() {
+        Some(Token::EndObject) => Ok(()),
+        _ => Err(Unusual),
+    }
+}
+
+/// The key that comes next, or none at the brace that ends an object.
+pub(crate) fn key_next<'a>(reader: &mut Reader<'a>) -> Result<Option<&'a str>, Unusual>
+    ensures { IfOk result (λ k. reader.old ≡ key_token k ∷ reader.new) }
+{
+    match reader.next() {
+        Some(Token::Key(key)) => Ok(Some(key)),
+        Some(Token::EndObject) => Ok(None),
+        _ => Err(Unusual),
+    }
+}
+
+/// Takes the key that comes next, where it is this one.
+pub(crate) fn after_key(name: &str, reader: &mut Reader<'_>) -> Result<(), Unusual>
+    ensures { OnOk result (reader.old ≡ key name.now ∷ reader.new) }
+{
+    match reader.next() {
+        Some(Token::Key(found)) if found == name => Ok(()),
+        _ => Err(Unusual),
+    }
+}
+
+/// Whether a key that was taken is this one.
+pub(crate) fn is_key(taken: Option<&str>, name: &str) -> bool
+    ensures { IsTrue result → key_token taken.entry ≡ key name.now }
+{
+    match taken {
+        Some(found) => found == name,
+        None => false,
+    }
+}
+
+/// Whether what was taken in place of a key is the end of an object.
+pub(crate) fn is_end(taken: Option<&str>) -> bool
+    ensures { IsTrue result → key_token taken.entry ≡ end_object }
+{
+    taken.is_none()
 }

@@ -7,4 +7,4 @@ use Rattle.json_shape.proofs.usual_scalars.item.Goals as goal
 pub returns : goal.returns
 returns c =
     let fits : SFits w128 c.in_ok-n.n = search rules in
-    rw (to_z-of_z w128 c.in_ok-n.n fits) (item_read _ _ _ _ c.in_ok-name.ensures c.in_ok-n.ensures)
+    rw (to_z-of_z w128 c.in_ok-n.n fits) (item_read _ _ _ _ _ c.in_ok-name.ensures c.in_ok-n.ensures)
