@@ -6,12 +6,9 @@ use Rattle.wire_def.specs.Grammar.{Spelling, Parts, IsGrammar}
 use Rattle.wire_def.proofs.Grammars.{mapped, both_are, tested_are}
 use Rattle.back_mach.specs.declared.header.MachHeader.{MachHeader}
 use Rattle.back_mach.specs.Words.{word, words, WordSpells}
-use Rattle.back_mach.specs.Header.{SixSpell, SixStop, read_six, is_simple, has_size, SimpleSpells, SimpleStops, read_simple, HeaderSpells, HeaderStops, read_header}
+use Rattle.back_mach.specs.Header.{Values, header_in, SixSpell, SixStop, read_six, is_simple, has_size, SimpleSpells, SimpleStops, read_simple, HeaderSpells, HeaderStops, read_header}
 use Rattle.head_kit.specs.Words as kit
 use Rattle.head_kit.proofs.Words.{word_is}
-
-abbrev Values : Type 0
-Values = ℕ × (ℕ × (ℕ × (ℕ × (ℕ × ℕ))))
 
 -- the words of one, in their order
 abbrev Six : Spelling Values
@@ -22,10 +19,7 @@ Six p o x =
     Parts p3 o3 (λ a. WordSpells p3 a x.1.1.1.0) (λ p4 o4.
     Parts p4 o4 (λ a. WordSpells p4 a x.1.1.1.1.0) (λ p5 o5. WordSpells p5 o5 x.1.1.1.1.1)))))
 
-abbrev header_of : Values → MachHeader
-header_of x = record { bits = x.0; size = x.1.0; remote = x.1.1.0; local = x.1.1.1.0; sequence = x.1.1.1.1.0; id = x.1.1.1.1.1 }
-
-forth : (p : ℕ) (o : List ℕ) (x : Values) → Six p o x → SixSpell p o (header_of x)
+forth : (p : ℕ) (o : List ℕ) (x : Values) → Six p o x → SixSpell p o (header_in x)
 unfolding SixSpell kit.WordSpells
 forth p o x (
   a,
@@ -44,7 +38,7 @@ forth p o x (
   record { bits = fits; size = fits1; remote = fits2; local = fits3; sequence = fits4; id = fits5 },
 )
 
-back : (p : ℕ) (o : List ℕ) (y : MachHeader) → SixSpell p o y → (x : Values) × (header_of x ≡ y) × Six p o x
+back : (p : ℕ) (o : List ℕ) (y : MachHeader) → SixSpell p o y → (x : Values) × (header_in x ≡ y) × Six p o x
 unfolding SixSpell kit.WordSpells
 back p o y (is, fits) = (
   (y.bits, (y.size, (y.remote, (y.local, (y.sequence, y.id))))),
@@ -80,7 +74,7 @@ six_is : IsGrammar read_six SixSpell SixStop
 unfolding read_six SixStop
 six_is =
     let w = word_is Little in
-    mapped header_of SixSpell
+    mapped header_in SixSpell
     (both_are w (λ bits. both_are w (λ size. both_are w (λ remote. both_are w (λ local. both_are w (λ sequence. w))))))
     forth back
 

@@ -6,7 +6,7 @@ use Rattle.std.proofs.lemmas.Bool.{eq-eqb}
 use Rattle.std.proofs.lemmas.Int.{to_z-of_z}
 use Rattle.std.proofs.lemmas.List.{take_at, drop_at, length-take, length-drop}
 use Rattle.wire_def.specs.declared.head.Head.{Head}
-use Rattle.wire_def.specs.declared.outcome.Refusal.TheVariants.{ProgUnavail, ProgMismatch, ProcUnavail, GarbageArgs, SystemErr, RpcMismatch, AuthError, SystemException, UserException, RetCode}
+use Rattle.wire_def.specs.declared.outcome.Refusal.TheVariants.{RetCode}
 use Rattle.wire_def.specs.declared.reply.Status.{Status}
 use Rattle.wire_def.specs.declared.reply.Status.TheVariants as status
 use Rattle.head_arms.specs.Arms.{arm_status, where_raised}
@@ -212,15 +212,7 @@ refusals_read id arms remote n o port fits other is =
 
 pub own_octets : OwnHaveOctets
 own_octets id remote (RetCode n) = ((λ own. (_, refl)), λ has. tt)
-own_octets id remote ProgUnavail = ((λ own. absurd own), λ (o, is). absurd cc)
-own_octets id remote (ProgMismatch low high) = ((λ own. absurd own), λ (o, is). absurd cc)
-own_octets id remote ProcUnavail = ((λ own. absurd own), λ (o, is). absurd cc)
-own_octets id remote GarbageArgs = ((λ own. absurd own), λ (o, is). absurd cc)
-own_octets id remote SystemErr = ((λ own. absurd own), λ (o, is). absurd cc)
-own_octets id remote (RpcMismatch low high) = ((λ own. absurd own), λ (o, is). absurd cc)
-own_octets id remote (AuthError why) = ((λ own. absurd own), λ (o, is). absurd cc)
-own_octets id remote (SystemException name minor completion) = ((λ own. absurd own), λ (o, is). absurd cc)
-own_octets id remote (UserException name) = ((λ own. absurd own), λ (o, is). absurd cc)
+own_octets id remote _ = ((λ own. absurd own), λ (o, is). absurd cc)
 
 lead_long : (r : Routine) (arms arm : ℕ) (head : Head) → length (reply_lead r arms arm head) ≡ reply_lead_length arms
 lead_long r zero arm head = refl

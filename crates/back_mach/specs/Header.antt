@@ -62,10 +62,17 @@ HeaderStops n = TestedStops SimpleSpells SimpleStops (has_size n) Size (λ p. p 
 
 -- ---- reading it
 
+-- six words, in their order
+abbrev pub Values : Type 0
+Values = ℕ × (ℕ × (ℕ × (ℕ × (ℕ × ℕ))))
+
+-- the header that has these words
+abbrev pub header_in : Values → MachHeader
+header_in x = record { bits = x.0; size = x.1.0; remote = x.1.1.0; local = x.1.1.1.0; sequence = x.1.1.1.1.0; id = x.1.1.1.1.1 }
+
 -- six words, one after the other
 unfoldable pub read_six : Reader HeadErr MachHeader
-read_six p o = map_got
-    (λ x. record { bits = x.0; size = x.1.0; remote = x.1.1.0; local = x.1.1.1.0; sequence = x.1.1.1.1.0; id = x.1.1.1.1.1 })
+read_six p o = map_got header_in
     (both read_word (λ bits. both read_word (λ size. both read_word (λ remote.
     both read_word (λ local. both read_word (λ sequence. read_word))))) p o)
 

@@ -34,11 +34,7 @@ pub fn read_call(message: &[u8]) -> Result<MachCall, HeadErr>
 {
     heads_are_read();
     are_octets(message);
-    let at = Cursor {
-        place: 0,
-        rest: message,
-    };
-    call_at(message.len(), at)
+    call_at(message.len(), Cursor::start(message))
 }
 
 /// The head of a request, in a message of so many octets.

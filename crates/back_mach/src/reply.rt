@@ -32,11 +32,7 @@ pub fn read_reply(message: &[u8], id: u32, arms: u32) -> Result<ReplyHead<'_>, H
 {
     heads_are_read();
     are_octets(message);
-    let at = Cursor {
-        place: 0,
-        rest: message,
-    };
-    reply_at(id, arms, message.len(), at)
+    reply_at(id, arms, message.len(), Cursor::start(message))
 }
 
 /// The head of a reply that must have an id, in a message of so many octets.

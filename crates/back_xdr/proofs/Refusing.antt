@@ -1,16 +1,10 @@
 -- The refusals of this format are those that have octets.
 use Rattle.std.proofs.Common.{refl}
-use Rattle.wire_def.specs.declared.outcome.Refusal.TheVariants.{ProgUnavail, ProgMismatch, ProcUnavail, GarbageArgs, SystemErr, RpcMismatch, AuthError, SystemException, UserException, RetCode}
+use Rattle.wire_def.specs.declared.outcome.Refusal.TheVariants.{SystemException, UserException, RetCode}
 use Rattle.back_xdr.specs.Laws.{OwnHaveOctets}
 
 pub own_octets : OwnHaveOctets
-own_octets ProgUnavail id = ((λ own. (_, refl)), λ has. tt)
-own_octets (ProgMismatch low high) id = ((λ own. (_, refl)), λ has. tt)
-own_octets ProcUnavail id = ((λ own. (_, refl)), λ has. tt)
-own_octets GarbageArgs id = ((λ own. (_, refl)), λ has. tt)
-own_octets SystemErr id = ((λ own. (_, refl)), λ has. tt)
-own_octets (RpcMismatch low high) id = ((λ own. (_, refl)), λ has. tt)
-own_octets (AuthError why) id = ((λ own. (_, refl)), λ has. tt)
 own_octets (SystemException name minor completion) id = ((λ own. absurd own), λ (o, is). absurd cc)
 own_octets (UserException name) id = ((λ own. absurd own), λ (o, is). absurd cc)
 own_octets (RetCode n) id = ((λ own. absurd own), λ (o, is). absurd cc)
+own_octets _ id = ((λ own. (_, refl)), λ has. tt)

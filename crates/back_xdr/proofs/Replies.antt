@@ -51,6 +51,11 @@ two_is : (status : ℕ → ℕ → Status)
     (Two status) TwoWordsStop
 two_is status = mapped (λ (x : ℕ × ℕ). status x.0 x.1) (Two status) two_are (λ p o x h. (x, refl, h)) (λ p o y h. h)
 
+two_back : (status : ℕ → ℕ → Status) (p low high : ℕ) → kit.IsWord low → kit.IsWord high
+    → Two status p (word low ++ word high) (status low high)
+unfolding kit.WordSpells
+two_back status p low high lows highs = ((low, high), refl, (word low, word high, refl, (refl, lows), (refl, highs)))
+
 numbered_is : (arms : ℕ)
     → IsGrammar (λ p o. Rattle.wire_def.specs.Grammar.map_got arm_status (read_arm arms p o)) (ArmSpells arms) (ArmStops arms)
 numbered_is arms =
@@ -118,17 +123,9 @@ unfolding kit.WordSpells
 accepted_back arms p o Answer is = answer_back arms p o is
 accepted_back arms p o (Raised k) is = raised_back arms k p o is.0 is.1
 accepted_back arms p o ProgUnavail is = ((1, ProgUnavail), refl, (word 1, [], is, ((refl, omega arith), refl), (refl, refl)))
-accepted_back arms p o (ProgMismatch low high) (is, lows, highs) = (
-  (2, ProgMismatch low high),
-  refl,
-  (
-    word 2,
-    word low ++ word high,
-    is,
-    ((refl, omega arith), refl),
-    ((low, high), refl, (word low, word high, refl, (refl, lows), (refl, highs))),
-  ),
-)
+accepted_back arms p o (ProgMismatch low high) (is, lows, highs) =
+    let two = two_back ProgMismatch p low high lows highs in
+    ((2, ProgMismatch low high), refl, (word 2, word low ++ word high, is, ((refl, omega arith), refl), two))
 accepted_back arms p o ProcUnavail is = ((3, ProcUnavail), refl, (word 3, [], is, ((refl, omega arith), refl), (refl, refl)))
 accepted_back arms p o GarbageArgs is = ((4, GarbageArgs), refl, (word 4, [], is, ((refl, omega arith), refl), (refl, refl)))
 accepted_back arms p o SystemErr is = ((5, SystemErr), refl, (word 5, [], is, ((refl, omega arith), refl), (refl, refl)))
@@ -164,17 +161,9 @@ denied_forth (suc n) p o s (a, b, is, ((first, fits), few), (x, same, (why, whys
 
 denied_back : (p : ℕ) (o : List ℕ) (s : Status) → DeniedSpells p o s → (x : ℕ × Status) × (x.1 ≡ s) × Denied x.0 p o x.1
 unfolding kit.WordSpells
-denied_back p o (RpcMismatch low high) (is, lows, highs) = (
-  (0, RpcMismatch low high),
-  refl,
-  (
-    word 0,
-    word low ++ word high,
-    is,
-    ((refl, omega arith), refl),
-    ((low, high), refl, (word low, word high, refl, (refl, lows), (refl, highs))),
-  ),
-)
+denied_back p o (RpcMismatch low high) (is, lows, highs) =
+    let two = two_back RpcMismatch p low high lows highs in
+    ((0, RpcMismatch low high), refl, (word 0, word low ++ word high, is, ((refl, omega arith), refl), two))
 denied_back p o (AuthError why) (is, whys) =
     ((1, AuthError why), refl, (word 1, word why, is, ((refl, omega arith), refl), (why, refl, (refl, whys))))
 denied_back p o _ h = absurd h

@@ -29,11 +29,7 @@ pub fn read_reply(message: &[u8], arms: u32) -> Result<ReplyHead<'_>, HeadErr>
 {
     heads_are_read();
     are_octets(message);
-    let at = Cursor {
-        place: 0,
-        rest: message,
-    };
-    reply_at(arms, at)
+    reply_at(arms, Cursor::start(message))
 }
 
 /// The head of a reply, item by item.

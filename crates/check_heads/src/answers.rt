@@ -1,8 +1,8 @@
 //! What is asked of a row.
 
 use crate::{giop, mach, records, refusals};
-use check_rows::{Bad, member};
-use serde_json::{Category, Value as Json};
+use check_rows::{Answers, Bad, member};
+use serde_json::Value as Json;
 use std::alloc::Global;
 
 /// What is asked of a row, by the member `ask`.
@@ -70,25 +70,12 @@ fn answer_to(alloc: Global, row: &Json, ask: Ask) -> Result<String, Bad> {
     }
 }
 
-/// The answer to a row that is read.
-fn answered(alloc: Global, row: &Json) -> Result<String, Bad> {
-    let ask = asked(row)?;
-    answer_to(alloc, row, ask)
-}
+/// The rows of heads and of records.
+pub struct Rows;
 
-/// The row of a line.
-fn row_of(alloc: Global, line: &str) -> Result<Json, Bad> {
-    match Json::from_str(alloc, line) {
-        Ok(row) => Ok(row),
-        Err(error) => match error.classify() {
-            Category::Memory => Err(Bad::NoMemory),
-            _ => Err(Bad::Row("no JSON")),
-        },
+impl Answers for Rows {
+    fn answer(alloc: Global, row: &Json) -> Result<String, Bad> {
+        let ask = asked(row)?;
+        answer_to(alloc, row, ask)
     }
-}
-
-/// The answer to a row.
-pub fn answer(alloc: Global, line: &str) -> Result<String, Bad> {
-    let row = row_of(alloc, line)?;
-    answered(alloc, &row)
 }

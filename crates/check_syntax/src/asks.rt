@@ -5,31 +5,30 @@ ghost use Rattle.std.specs.Prelude.{◌≤◌, IfOk};
 use crate::declared::put_declaration;
 use crate::shown::{put_expr, put_token, put_type};
 use aoi::{Field, Operation, Ty, Unit};
-use check_rows::Bad;
+use check_rows::{Answers, Bad};
 use corba_decls::{Declaration, declaration, type_name};
 use corba_syntax::{SyntaxErr, parse};
 use front_corba::{NameFault, files_are_whole, resolve};
 use idl_exprs::expression;
 use idl_lex::{Front, LexErr, Token, Tokens, lex};
 use idl_read::Halt;
-use serde_json::{Category, Value as Json};
+use serde_json::Value as Json;
 use std::alloc::Global;
 
-/// The answer to a case.
-pub fn answer(alloc: Global, line: &str) -> Result<String, Bad> {
-    let row = match Json::from_str(alloc, line) {
-        Ok(row) => row,
-        Err(error) if error.classify() == Category::Memory => return Err(Bad::NoMemory),
-        Err(_) => return Err(Bad::Row("no JSON")),
-    };
-    let text = text_of(alloc, &row)?;
-    match lex(alloc, front_of(&row), text.as_bytes()) {
-        Ok(tokens) => reported(alloc, &row, &tokens),
-        Err(LexErr::BadOctet(at)) => Ok(format!(in alloc; "BadOctet {at}")?),
-        Err(LexErr::OpenComment(at)) => Ok(format!(in alloc; "OpenComment {at}")?),
-        Err(LexErr::Wide(at)) => Ok(format!(in alloc; "Wide {at}")?),
-        Err(LexErr::Directive(at)) => Ok(format!(in alloc; "Directive {at}")?),
-        Err(LexErr::NoMemory) => Err(Bad::NoMemory),
+/// The cases of lexing and parsing.
+pub struct Cases;
+
+impl Answers for Cases {
+    fn answer(alloc: Global, row: &Json) -> Result<String, Bad> {
+        let text = text_of(alloc, row)?;
+        match lex(alloc, front_of(row), text.as_bytes()) {
+            Ok(tokens) => reported(alloc, row, &tokens),
+            Err(LexErr::BadOctet(at)) => Ok(format!(in alloc; "BadOctet {at}")?),
+            Err(LexErr::OpenComment(at)) => Ok(format!(in alloc; "OpenComment {at}")?),
+            Err(LexErr::Wide(at)) => Ok(format!(in alloc; "Wide {at}")?),
+            Err(LexErr::Directive(at)) => Ok(format!(in alloc; "Directive {at}")?),
+            Err(LexErr::NoMemory) => Err(Bad::NoMemory),
+        }
     }
 }
 

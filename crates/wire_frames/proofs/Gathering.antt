@@ -28,47 +28,38 @@ module _ (message rest joined : List ℕ) (j : Joins message rest joined) where
   fuel [] h = absurd (h (omega arith))
   fuel (x ∷ s) h = (length s, refl)
 
-  pub joins_there : 4 + size_in rest ≤ length rest
-  joins_there =
+  -- its octets are there; where it is the last, they end the message, and else they are joined too
+  pub joins : (4 + size_in rest ≤ length rest) × (is_last rest ≡ true → message ≡ joined ++ octets_in rest)
+      × (is_last rest ≡ false → Joins message (behind rest) (joined ++ octets_in rest))
+  joins =
       let k = fuel rest never_short in
       elim (step k.0 j.sum rest _ (stepped k.0 k.1)) [
         | short less is ↦ absurd (never_short less)
         | long header over is ↦ absurd cc
         | cut_off header few less is ↦ absurd cc
-        | ended all few last is ↦ all
-        | going all few last is ↦ all
-      ]
-
-  pub joins_last : is_last rest ≡ true → message ≡ joined ++ octets_in rest
-  joins_last last_one =
-      let k = fuel rest never_short in
-      elim (step k.0 j.sum rest _ (stepped k.0 k.1)) [
-        | short less is ↦ absurd (never_short less)
-        | long header over is ↦ absurd cc
-        | cut_off header few less is ↦ absurd cc
-        | ended all few last is ↦ j.makes ∙ ap (λ (x : List ℕ). joined ++ x) (same_message _ _ _ _ (sym is)).0
-        | going all few last is ↦ absurd cc
-      ]
-
-  pub joins_next : is_last rest ≡ false → Joins message (behind rest) (joined ++ octets_in rest)
-  joins_next not_last =
-      let k = fuel rest never_short in
-      elim (step k.0 j.sum rest _ (stepped k.0 k.1)) [
-        | short less is ↦ absurd (never_short less)
-        | long header over is ↦ absurd cc
-        | cut_off header few less is ↦ absurd cc
-        | ended all few last is ↦ absurd cc
+        | ended all few last is ↦
+            (all, (λ e. j.makes ∙ ap (λ (x : List ℕ). joined ++ x) (same_message _ _ _ _ (sym is)).0), (λ e. absurd cc))
         | going all few last is ↦
             let behind_it : First = record_within k.0 (j.sum + size_in rest) (behind rest) in
             let f = found_after (octets_in rest) (4 + size_in rest) behind_it j.others j.used (sym is) in
-            let less : length (behind rest) ≤ k.0 = omega (arith, k.1, length-drop (4 + size_in rest) rest) in
-            record {
-              sum = j.sum + size_in rest;
-              others = f.0;
-              used = f.1;
-              found = enough (length (behind rest)) k.0 (j.sum + size_in rest) (behind rest) (omega arith) less ∙ f.2;
-              makes =
-                  j.makes ∙ ap (λ (x : List ℕ). joined ++ x) f.3
-                  ∙ sym (append_assoc joined (octets_in rest) f.0);
-            }
+            let less : length (behind rest) ≤ k.0 = omega (arith, k.1, length-drop (4 + size_in rest) rest) in (
+              all,
+              (λ e. absurd cc),
+              λ e. record {
+                sum = j.sum + size_in rest;
+                others = f.0;
+                used = f.1;
+                found = enough (length (behind rest)) k.0 (j.sum + size_in rest) (behind rest) (omega arith) less ∙ f.2;
+                makes = j.makes ∙ ap (λ (x : List ℕ). joined ++ x) f.3 ∙ sym (append_assoc joined (octets_in rest) f.0);
+              },
+            )
       ]
+
+  pub joins_there : 4 + size_in rest ≤ length rest
+  joins_there = joins.0
+
+  pub joins_last : is_last rest ≡ true → message ≡ joined ++ octets_in rest
+  joins_last = joins.1
+
+  pub joins_next : is_last rest ≡ false → Joins message (behind rest) (joined ++ octets_in rest)
+  joins_next = joins.2

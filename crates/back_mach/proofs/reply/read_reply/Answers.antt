@@ -9,10 +9,12 @@ pub returns-clause-spells : goal.returns-clause-spells
 returns-clause-spells c =
     let n : ℕ = length c.args.message.now in
     let w : HeadKind = reply c.args.id c.args.arms in
-    rw c.reply_at.ensures (reported_head (format w n) (heads_are_read w n) reply_reported c.args.message.now c.are_octets.ensures)
+    rw (c.reply_at.ensures, c.start.ensures.place, c.start.ensures.rest)
+    (reported_head (format w n) (heads_are_read w n) reply_reported c.args.message.now c.are_octets.ensures)
 
 pub returns-clause-stops : goal.returns-clause-stops
 returns-clause-stops c =
     let n : ℕ = length c.args.message.now in
     let w : HeadKind = reply c.args.id c.args.arms in
-    rw c.reply_at.ensures (reported_fault (format w n) (heads_are_read w n) reply_reported c.args.message.now c.are_octets.ensures)
+    rw (c.reply_at.ensures, c.start.ensures.place, c.start.ensures.rest)
+    (reported_fault (format w n) (heads_are_read w n) reply_reported c.args.message.now c.are_octets.ensures)
