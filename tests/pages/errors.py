@@ -74,23 +74,15 @@ def variants(enum):
 
 
 def causes():
-    """The causes of flick_explain by their file and constant."""
+    """The causes of flick_explain, by the function that tells them and the word that each is of, `_` or none."""
     found = {}
-    for path in ("causes", "refusals", "stub_causes"):
+    for path in ("causes", "refusals"):
         text = sources.text_of(f"crates/flick_explain/src/{path}.rt")
-        for name, body in re.findall(r"const (\w+): Cause = Cause \{(.*?)\n\};", text, re.S):
-            found[path, name] = dict(re.findall(r'(what|why|repair): "(.*?)",\n', body))
-    return found
-
-
-def arms():
-    """The causes of each word of a refusal, by the function that chooses, with those that its last arm leaves to another."""
-    found = {}
-    for path in ("causes", "refusals", "stub_causes"):
-        text = sources.text_of(f"crates/flick_explain/src/{path}.rt")
-        for function, body in re.findall(r"fn (\w+)\((.*?)\n    ?\}\n", text, re.S):
-            for word, name in re.findall(r'b"(\w+)"(?: if [^=]*==[^=]*)? => (?:Some\()?([A-Z_]+)', body):
-                found.setdefault(function, {}).setdefault(word, []).append((path, name))
+        for part in re.split(r"\bfn (?=\w+\()", text)[1:]:
+            function = re.match(r"\w+", part)[0]
+            for word, strings in re.findall(r'(?:(b"\w+"|\b_)(?: if [^=]*==[^=]*)? => (?:Some\()?)?Cause::\w+\(\s*((?:"[^"]*",?\s*)+)\)', part):
+                *_, why, repair = re.findall('"([^"]*)"', strings)
+                found.setdefault((function, word.strip('b"')), []).append({"why": why, "repair": repair})
     return found
 
 
@@ -156,15 +148,15 @@ def told_files():
 
 class Page:
     def __init__(self):
-        self.causes, self.arms, self.repair = causes(), arms(), ""
+        self.causes, self.repair = causes(), ""
         self.files, self.said = told_files(), explained()
 
-    def of_word(self, function, word):
-        return self.arms[function].get(word, [])[:1]
+    def of_word(self, function, word=""):
+        """The last cause of a word: those before it are of some verbs alone."""
+        return self.causes.get((function, word), [])[-1:]
 
-    def entry(self, answer, place, doc, names):
+    def entry(self, answer, place, doc, found):
         """An entry: what is there, why, an example, and what may help."""
-        found = [self.causes[name] for name in names]
         told = dict.fromkeys([whole(doc)] if doc else [])
         if answer in WITH_CAUSE:
             told.update(dict.fromkeys(whole(each["why"]) for each in found[:1]))
@@ -194,14 +186,9 @@ def group(out, page, heading, entries, first=()):
         out += page.entry(answer, place, doc, names)
 
 
-OF_RECORDS = {"! long": ["LONG"], "! json": ["JSON"], "! request": ["REQUEST"], "! op": ["OP"],
-              "! head": ["NO_REPLY"], "! value": ["VALUE"]}
-OF_STUBS = {"! text": ["NO_STUB"], "! meaning": ["OTHER_MEANING"], "! cover": ["NO_ROOM"]}
-HEADS = {"Short": ["HEAD_SHORT"], "Type_": ["HEAD_TYPE"]}
-
-
-def refusals(*names):
-    return [("refusals", name) for name in names]
+OF_RECORDS = {"! long": ("cause", "long"), "! json": ("cause", "json"), "! request": ("request_cause", "request"), "! op": ("unknown_op_cause",),
+              "! head": ("head_cause",), "! value": ("request_cause", "_")}
+OF_STUBS = {"! text": "text", "! meaning": "meaning", "! cover": "_"}
 
 
 def page():
@@ -216,17 +203,17 @@ def page():
     group(out, page, "REPLIES is refused (`serve`)", [
         (answer, place, SAID.get(answer) or saying[variant], []) for answer, _, variant, place in REPLIES])
     group(out, page, "STUBFILE or a stub in it is refused (`check`)", [
-        (answer, place, SAID.get(answer) or variants(enum)[variant], [("stub_causes", name) for name in OF_STUBS.get(answer, [])]) for answer, enum, variant, place in STUBS],
+        (answer, place, SAID.get(answer) or variants(enum)[variant], page.of_word("stub_cause", OF_STUBS.get(answer))) for answer, enum, variant, place in STUBS],
         ["`docs/STUBS.md`, \"Stubs of other makers\"."])
     group(out, page, "A record is refused (`marshal`, `count`, `reply`)", [
-        (answer, place, SAID.get(answer) or record[variant], refusals(*OF_RECORDS[answer])) for answer, _, variant, place in RECORDS])
-    entries = [("! hex", "", SAID["! hex"], refusals("HEX"))]
-    entries += [(f"! head {word.rstrip('_')}", "", doc, refusals(*HEADS.get(word, []))) for word, doc in variants("head").items()]
-    entries += [("! interface", "", message["NoInterface"], refusals("INTERFACE")), ("! operation", "", message["NoOperation"], refusals("OPERATION"))]
+        (answer, place, SAID.get(answer) or record[variant], page.of_word(*OF_RECORDS[answer])) for answer, _, variant, place in RECORDS])
+    entries = [("! hex", "", SAID["! hex"], page.of_word("message_cause", "hex"))]
+    entries += [(f"! head {word.rstrip('_')}", "", doc, page.of_word("head_cause", word.rstrip("_")) if word in ("Short", "Type_") else []) for word, doc in variants("head").items()]
+    entries += [("! interface", "", message["NoInterface"], page.of_word("message_cause", "interface")), ("! operation", "", message["NoOperation"], page.of_word("message_cause", "operation"))]
     entries += [(f"! body {word}", "AT", doc, page.of_word("body_cause", word)) for word, doc in variants("body").items()]
-    entries += [("! trailing", "AT", message["Trailing"], refusals("TRAILING")), ("! pair", "", SAID["! pair"], refusals("PAIR"))]
+    entries += [("! trailing", "AT", message["Trailing"], page.of_word("message_cause", "trailing")), ("! pair", "", SAID["! pair"], page.of_word("message_cause", "pair"))]
     group(out, page, "A message is refused (`unmarshal`, `unreply`, `serve`, `bridge`)", entries, [
-        f"{whole(page.causes['refusals', 'HEAD_OTHER']['repair'])} It says over which BACK a fault comes, and shows faults of bodies."])
+        f"{whole(page.of_word('head_cause', '_')[0]['repair'])} It says over which BACK a fault comes, and shows faults of bodies."])
     entries = [(f"! frame {word}", "", doc, page.of_word("frame_cause", word)) for word, doc in variants("frame").items()]
     entries += [("! frame Cut", "", SAID["! frame Cut"], page.of_word("frame_cause", "Cut"))]
     group(out, page, "A stream is refused (`unpipe`)", entries, ["It is the last line; the messages before it are answered."])

@@ -3,6 +3,8 @@
 
 mod bad;
 mod parts;
+mod rows;
 
 pub use bad::Bad;
 pub use parts::{list, member, number, octets, part, reported, signed, word};
+pub use rows::{Answers, answer_rows};

@@ -11,7 +11,7 @@ use crate::printed::text;
 use crate::received::received_case;
 use crate::swaps::swapped;
 use crate::values::value_of;
-use check_rows::{Bad, member, octets, reported, word};
+use check_rows::{Answers, Bad, member, octets, reported, word};
 use hex::encode;
 use kit_base::Octets;
 use kit_base::limits::LONGEST_MESSAGE;
@@ -21,7 +21,7 @@ use mint::fits::fits;
 use mint::table::{Mint, NodeId};
 use mint::value::Value;
 use plain_wire::{Read, plain_read, plain_send};
-use serde_json::{Category, Value as Json};
+use serde_json::Value as Json;
 use std::alloc::Global;
 use storage_class::classify;
 use wire_def::Encoding;
@@ -60,20 +60,15 @@ fn answer_to(alloc: Global, row: &Json, ask: &str) -> Result<String, Bad> {
     }
 }
 
-/// The answer to a case that is read.
-fn answered(alloc: Global, row: &Json) -> Result<String, Bad> {
-    match member(row, "ask")?.as_str() {
-        Some(ask) => answer_to(alloc, row, ask),
-        None => Err(Bad::Row("nothing is asked")),
-    }
-}
+/// The cases of values, octets and stub code.
+pub struct Cases;
 
-/// The answer to a case.
-pub fn answer(alloc: Global, line: &str) -> Result<String, Bad> {
-    match Json::from_str(alloc, line) {
-        Ok(row) => answered(alloc, &row),
-        Err(error) if error.classify() == Category::Memory => Err(Bad::NoMemory),
-        Err(_) => Err(Bad::Row("no JSON")),
+impl Answers for Cases {
+    fn answer(alloc: Global, row: &Json) -> Result<String, Bad> {
+        match member(row, "ask")?.as_str() {
+            Some(ask) => answer_to(alloc, row, ask),
+            None => Err(Bad::Row("nothing is asked")),
+        }
     }
 }
 

@@ -14,22 +14,10 @@ mod received;
 mod swaps;
 mod values;
 
-use crate::asks::answer;
-use anyhow::{Result, bail};
-use check_rows::Bad;
-use std::io::{self, BufRead, BufReader, BufWriter, Write};
+use crate::asks::Cases;
+use anyhow::Result;
+use check_rows::answer_rows;
 
 fn main(rt: HostRuntime) -> Result<()> {
-    let alloc = rt.alloc();
-    let mut out = BufWriter::new(alloc, io::writer(&rt))?;
-    for line in BufReader::new(alloc, rt.reader())?.lines(alloc) {
-        let line = line?;
-        match answer(alloc, line.as_str()) {
-            Ok(reported) => writeln!(out, "{reported}")?,
-            Err(Bad::Row(why)) => writeln!(out, "? {why}")?,
-            Err(Bad::NoMemory) => bail!("no memory"),
-        }
-    }
-    out.flush()?;
-    Ok(())
+    answer_rows::<Cases>(&rt)
 }

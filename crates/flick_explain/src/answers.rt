@@ -8,7 +8,7 @@ use crate::known::Known;
 use crate::shelved::Shelved;
 use crate::tables::{tell_all, telling_of};
 use kit_base::limits::{LONGEST_LINE, MOST_INPUT};
-use kit_base::{LineErr, Lines, NoMemory, Shelf, Sink, Source, Words, write_whole};
+use kit_base::{Line, LineErr, Lines, NoMemory, Shelf, Sink, Source, Words, write_whole};
 use pres::Bound;
 use std::alloc::Global;
 
@@ -126,21 +126,18 @@ fn say_one<S: Source, K: Sink>(
     input: &mut S,
     output: &mut K,
 ) -> Result<bool, Ended> {
-    match lines.next(input) {
-        Ok(line) => {
-            let reported = known.line(alloc, &line, inputs)?;
-            write(output, reported.as_bytes())?;
-            Ok(!line.is_end())
-        }
-        Err(error) => Err(ended_by(error)),
-    }
+    let line = next_line(lines, input)?;
+    let reported = known.line(alloc, &line, inputs)?;
+    write(output, reported.as_bytes())?;
+    Ok(!line.is_end())
 }
 
-/// How a failing input ends the work.
-fn ended_by(error: LineErr) -> Ended {
-    match error {
-        LineErr::Failed => Ended::Source,
-        LineErr::TooMuch => Ended::Length,
-        LineErr::NoMemory => Ended::NoMemory,
+/// The next line of an input, or how a failing input ends the work.
+pub fn next_line<S: Source>(lines: &mut Lines, input: &mut S) -> Result<Line, Ended> {
+    match lines.next(input) {
+        Ok(line) => Ok(line),
+        Err(LineErr::Failed) => Err(Ended::Source),
+        Err(LineErr::TooMuch) => Err(Ended::Length),
+        Err(LineErr::NoMemory) => Err(Ended::NoMemory),
     }
 }

@@ -102,8 +102,8 @@ impl Body<'_> {
         };
         match node {
             Node::Group(ids) => match shape {
-                Shape::FieldNames(names) => self.fields(alloc, ids, names, at),
-                _ => self.arguments(alloc, ids, at),
+                Shape::FieldNames(names) => self.fields(alloc, ids, Some(names), at),
+                _ => self.fields(alloc, ids, None, at),
             },
             Node::Items(item, size) => self.elements(alloc, *item, *size, at),
             Node::Choice(tag, arms, other) => self.arm(alloc, tag, arms, *other, at),
@@ -112,12 +112,12 @@ impl Body<'_> {
         }
     }
 
-    /// The first field that is not read.
+    /// The first field that is not read, or the first argument where they have no names.
     fn fields(
         &self,
         alloc: Global,
         ids: &NodeIds,
-        names: &FieldTable,
+        names: Option<&FieldTable>,
         at: usize,
     ) -> Result<Option<Inner>, NoMemory> {
         let mut place = at;
@@ -125,33 +125,8 @@ impl Body<'_> {
             match self.length(alloc, *id, place)? {
                 Some(used) => place = place.saturating_add(used),
                 None => {
-                    let piece = format!(in alloc; ".{}", shown(alloc, word_at(names, i))?)?;
                     return Ok(Some(Inner {
-                        piece,
-                        id: *id,
-                        at: place,
-                    }));
-                }
-            }
-        }
-        Ok(None)
-    }
-
-    /// The first argument that is not read.
-    fn arguments(
-        &self,
-        alloc: Global,
-        ids: &NodeIds,
-        at: usize,
-    ) -> Result<Option<Inner>, NoMemory> {
-        let mut place = at;
-        for (i, id) in ids.as_slice().iter().enumerate() {
-            match self.length(alloc, *id, place)? {
-                Some(used) => place = place.saturating_add(used),
-                None => {
-                    let piece = format!(in alloc; "[{i}]")?;
-                    return Ok(Some(Inner {
-                        piece,
+                        piece: piece_of(alloc, names, i)?,
                         id: *id,
                         at: place,
                     }));
@@ -342,5 +317,13 @@ fn aligned(width: usize, at: usize) -> usize {
         at
     } else {
         at.saturating_add(width.saturating_sub(past))
+    }
+}
+
+/// The name of a field, or the place of an argument.
+fn piece_of(alloc: Global, names: Option<&FieldTable>, i: usize) -> Result<String, NoMemory> {
+    match names {
+        Some(names) => Ok(format!(in alloc; ".{}", shown(alloc, word_at(names, i))?)?),
+        None => Ok(format!(in alloc; "[{i}]")?),
     }
 }

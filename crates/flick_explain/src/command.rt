@@ -112,24 +112,16 @@ fn over_two<'a>(
     fifth: &'a Octets,
 ) -> Option<Run<'a>> {
     match verb.as_slice() {
-        b"serve" => serve_of(front, back, fourth, fifth),
-        b"check" => check_of(front, back, fourth, fifth),
+        b"serve" => Some(Run {
+            replies: Some(fifth.as_slice()),
+            ..run_in(Verb::Serve, front, back, fourth)?
+        }),
+        b"check" => Some(Run {
+            stubs: Some(fifth.as_slice()),
+            ..run_in(Verb::Check, front, back, fourth)?
+        }),
         _ => bridge_of(verb, front, back, fourth, fifth),
     }
-}
-
-/// The run of `check FRONT BACK FILE STUBFILE`.
-fn check_of<'a>(
-    front: &Octets,
-    back: &Octets,
-    path: &'a Octets,
-    stubs: &'a Octets,
-) -> Option<Run<'a>> {
-    let run = run_in(Verb::Check, front, back, path)?;
-    Some(Run {
-        stubs: Some(stubs.as_slice()),
-        ..run
-    })
 }
 
 /// The run of `bridge FRONT BACK1 BACK2 FILE`.
@@ -145,20 +137,6 @@ fn bridge_of<'a>(
     }
     wire_of(to.as_slice())?;
     run_in(Verb::Bridge, front, back, path)
-}
-
-/// The run of `serve FRONT BACK FILE REPLIES`.
-fn serve_of<'a>(
-    front: &Octets,
-    back: &Octets,
-    path: &'a Octets,
-    replies: &'a Octets,
-) -> Option<Run<'a>> {
-    let run = run_in(Verb::Serve, front, back, path)?;
-    Some(Run {
-        replies: Some(replies.as_slice()),
-        ..run
-    })
 }
 
 /// The run of `show FRONT FILE`.

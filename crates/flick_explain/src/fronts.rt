@@ -1,9 +1,9 @@
 //! What the front ends say of a text: whether it has a tree, a unit, a binding.
 
-ghost use Rattle.front_onc.specs.Resolved.{IsWhole as OncIsWhole};
-ghost use Rattle.front_corba.specs.Resolved.{IsWhole as CorbaIsWhole};
+ghost use Rattle.std.specs.Prelude.{IfOk};
+ghost use Rattle.aoi.specs.Sound.{IsSound};
 
-use aoi::{NameErr, NameFault};
+use aoi::{NameErr, NameFault, Unit};
 use idl_lex::{Front, LexErr, Tokens, lex};
 use kit_base::NoMemory;
 use onc_syntax::SyntaxErr;
@@ -61,47 +61,73 @@ fn is_tree(error: Option<SyntaxErr>) -> Result<bool, NoMemory> {
 
 /// Whether the names of a text are resolved.
 pub fn is_resolved(alloc: Global, front: Front, text: &[u8]) -> Result<bool, NoMemory> {
+    Ok(unit_of(alloc, front, text)?.is_ok())
+}
+
+/// The unit of a text, or how far the text comes.
+fn unit_of(alloc: Global, front: Front, text: &[u8]) -> Result<Result<Unit, Reached>, NoMemory>
+    ensures { IfOk result (λ read. IfOk read IsSound) }
+{
     match tokens_of(alloc, front, text)? {
         Some(tokens) => match front {
-            Front::Onc => onc_names(alloc, &tokens),
-            Front::Corba => corba_names(alloc, &tokens),
-            Front::Mig => mig_names(alloc, &tokens),
+            Front::Onc => onc_unit(alloc, &tokens),
+            Front::Corba => corba_unit(alloc, &tokens),
+            Front::Mig => mig_unit(alloc, &tokens),
         },
-        None => Ok(false),
+        None => Ok(Err(Reached::Text)),
     }
 }
 
-fn onc_names(alloc: Global, tokens: &Tokens) -> Result<bool, NoMemory> {
+fn onc_unit(alloc: Global, tokens: &Tokens) -> Result<Result<Unit, Reached>, NoMemory>
+    ensures { IfOk result (λ read. IfOk read IsSound) }
+{
     front_onc::files_are_whole();
     match onc_syntax::parse(alloc, tokens) {
-        Ok(tree) => is_unit(front_onc::resolve(alloc, &tree).err()),
-        Err(error) => is_tree(Some(error)),
+        Ok(tree) => resolved(front_onc::resolve(alloc, &tree)),
+        Err(error) => unparsed(error),
     }
 }
 
-fn corba_names(alloc: Global, tokens: &Tokens) -> Result<bool, NoMemory> {
+fn corba_unit(alloc: Global, tokens: &Tokens) -> Result<Result<Unit, Reached>, NoMemory>
+    ensures { IfOk result (λ read. IfOk read IsSound) }
+{
     front_corba::files_are_whole();
     match corba_syntax::parse(alloc, tokens) {
-        Ok(tree) => is_unit(front_corba::resolve(alloc, &tree).err()),
-        Err(error) => is_tree(Some(error)),
+        Ok(tree) => resolved(front_corba::resolve(alloc, &tree)),
+        Err(error) => unparsed(error),
     }
 }
 
-fn mig_names(alloc: Global, tokens: &Tokens) -> Result<bool, NoMemory> {
+fn mig_unit(alloc: Global, tokens: &Tokens) -> Result<Result<Unit, Reached>, NoMemory>
+    ensures { IfOk result (λ read. IfOk read IsSound) }
+{
     match mig_syntax::parse(alloc, tokens) {
-        Ok(tree) => is_unit(front_mig::resolve(alloc, &tree).err()),
-        Err(error) => is_tree(Some(error)),
+        Ok(tree) => resolved(front_mig::resolve(alloc, &tree)),
+        Err(error) => unparsed(error),
     }
 }
 
-/// Whether a tree gave a unit.
-fn is_unit(error: Option<NameErr>) -> Result<bool, NoMemory> {
-    match error {
-        None => Ok(true),
-        Some(error) => match error.fault {
+/// What the names of a tree come to.
+fn resolved(unit: Result<Unit, NameErr>) -> Result<Result<Unit, Reached>, NoMemory>
+    requires { IfOk unit IsSound }
+    ensures { IfOk result (λ read. IfOk read IsSound) }
+{
+    match unit {
+        Ok(unit) => Ok(Ok(unit)),
+        Err(error) => match error.fault {
             NameFault::NoMemory => Err(NoMemory),
-            _ => Ok(false),
+            _ => Ok(Err(Reached::Tree)),
         },
+    }
+}
+
+/// What tokens without a tree come to.
+fn unparsed(error: SyntaxErr) -> Result<Result<Unit, Reached>, NoMemory>
+    ensures { IfOk result (λ read. IfOk read IsSound) }
+{
+    match error {
+        SyntaxErr::NoMemory => Err(NoMemory),
+        SyntaxErr::Syntax(_) => Ok(Err(Reached::Text)),
     }
 }
 
@@ -112,13 +138,20 @@ pub fn bound_of(
     back: Back,
     text: &[u8],
 ) -> Result<Result<Bound, Reached>, NoMemory> {
-    match tokens_of(alloc, front, text)? {
-        Some(tokens) => match front {
-            Front::Onc => onc(alloc, back, &tokens),
-            Front::Corba => corba(alloc, back, &tokens),
-            Front::Mig => mig(alloc, back, &tokens),
-        },
-        None => Ok(Err(Reached::Text)),
+    match unit_of(alloc, front, text)? {
+        Ok(unit) => bound(alloc, unit, back),
+        Err(reached) => Ok(Err(reached)),
+    }
+}
+
+/// What a unit comes to over a back end.
+fn bound(alloc: Global, unit: Unit, back: Back) -> Result<Result<Bound, Reached>, NoMemory>
+    requires { IsSound unit }
+{
+    match bind(alloc, unit, back) {
+        Ok(bound) => Ok(Ok(bound)),
+        Err(BindErr::NoMemory) => Err(NoMemory),
+        Err(_) => Ok(Err(Reached::Unit)),
     }
 }
 
@@ -127,93 +160,5 @@ pub fn reach_of(alloc: Global, front: Front, back: Back, text: &[u8]) -> Result<
     match bound_of(alloc, front, back, text)? {
         Ok(_) => Ok(Reached::Bound),
         Err(reached) => Ok(reached),
-    }
-}
-
-fn onc(alloc: Global, back: Back, tokens: &Tokens) -> Result<Result<Bound, Reached>, NoMemory> {
-    front_onc::files_are_whole();
-    match onc_syntax::parse(alloc, tokens) {
-        Ok(tree) => onc_tree(alloc, back, &tree),
-        Err(error) => unparsed(error),
-    }
-}
-
-fn corba(alloc: Global, back: Back, tokens: &Tokens) -> Result<Result<Bound, Reached>, NoMemory> {
-    front_corba::files_are_whole();
-    match corba_syntax::parse(alloc, tokens) {
-        Ok(tree) => corba_tree(alloc, back, &tree),
-        Err(error) => unparsed(error),
-    }
-}
-
-fn mig(alloc: Global, back: Back, tokens: &Tokens) -> Result<Result<Bound, Reached>, NoMemory> {
-    match mig_syntax::parse(alloc, tokens) {
-        Ok(tree) => mig_tree(alloc, back, &tree),
-        Err(error) => unparsed(error),
-    }
-}
-
-/// What a tree comes to.
-fn onc_tree(
-    alloc: Global,
-    back: Back,
-    tree: &onc_syntax::Tree,
-) -> Result<Result<Bound, Reached>, NoMemory>
-    requires { OncIsWhole tree.now }
-{
-    match front_onc::resolve(alloc, tree) {
-        Ok(unit) => reported(bind(alloc, unit, back)),
-        Err(error) => unresolved(error),
-    }
-}
-
-/// What a tree comes to.
-fn corba_tree(
-    alloc: Global,
-    back: Back,
-    tree: &corba_syntax::Tree,
-) -> Result<Result<Bound, Reached>, NoMemory>
-    requires { CorbaIsWhole tree.now }
-{
-    match front_corba::resolve(alloc, tree) {
-        Ok(unit) => reported(bind(alloc, unit, back)),
-        Err(error) => unresolved(error),
-    }
-}
-
-/// What a tree comes to.
-fn mig_tree(
-    alloc: Global,
-    back: Back,
-    tree: &mig_syntax::Tree,
-) -> Result<Result<Bound, Reached>, NoMemory> {
-    match front_mig::resolve(alloc, tree) {
-        Ok(unit) => reported(bind(alloc, unit, back)),
-        Err(error) => unresolved(error),
-    }
-}
-
-/// What a binding comes to.
-fn reported(bound: Result<Bound, BindErr>) -> Result<Result<Bound, Reached>, NoMemory> {
-    match bound {
-        Ok(bound) => Ok(Ok(bound)),
-        Err(BindErr::NoMemory) => Err(NoMemory),
-        Err(_) => Ok(Err(Reached::Unit)),
-    }
-}
-
-/// What a name that is not resolved comes to.
-fn unresolved(error: NameErr) -> Result<Result<Bound, Reached>, NoMemory> {
-    match error.fault {
-        NameFault::NoMemory => Err(NoMemory),
-        _ => Ok(Err(Reached::Tree)),
-    }
-}
-
-/// What tokens without a tree come to.
-fn unparsed(error: SyntaxErr) -> Result<Result<Bound, Reached>, NoMemory> {
-    match error {
-        SyntaxErr::NoMemory => Err(NoMemory),
-        SyntaxErr::Syntax(_) => Ok(Err(Reached::Text)),
     }
 }

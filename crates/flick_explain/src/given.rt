@@ -1,12 +1,10 @@
 //! `? replies`: the file of replies, or the line of it that gives none, and why.
 
 use crate::causes::Cause;
-use crate::given_causes::{
-    AGAIN, HEAD_NUMBER, LONG, NO_JSON, NO_OPERATION, NO_RECORD, NO_REPLY, NO_VALUE,
-};
 use crate::inputs::Inputs;
 use crate::lexing::put_cause;
 use crate::records::{head_key, json_of, json_reported, op_of};
+use crate::refusals::{misfit_cause, unknown_op_cause};
 use crate::reply_records::{keys_reported, reply_misfit, replying_reported};
 use crate::text::{number_in, shown, text_of};
 use json_shape::{RecordErr, RequestRec, read_reply};
@@ -143,7 +141,13 @@ impl Lined<'_> {
     fn line_wrong(&self, alloc: Global, line: &[u8]) -> Result<Option<Wrong>, NoMemory> {
         match json_of(alloc, line)? {
             Some(json) => self.json_wrong(alloc, &json),
-            None => Ok(is_wrong(json_reported(alloc, line)?, NO_JSON)),
+            None => Ok(is_wrong(
+                json_reported(alloc, line)?,
+                Cause::of(
+                    "each line of the file is one reply record, a JSON object in UTF-8.",
+                    "try the line with python3 -m json.tool.",
+                ),
+            )),
         }
     }
 
@@ -152,7 +156,13 @@ impl Lined<'_> {
         let key = head_key(self.bound.back());
         if json.get(key).is_some() {
             let reported = format!(in alloc; "the member '{key}' is there")?;
-            return Ok(is_wrong(reported, HEAD_NUMBER));
+            return Ok(is_wrong(
+                reported,
+                Cause::of(
+                    "a reply takes the number of the message that it answers.",
+                    "leave the member out.",
+                ),
+            ));
         }
         self.record_wrong(alloc, json)
     }
@@ -175,16 +185,28 @@ impl Lined<'_> {
     ) -> Result<Option<Wrong>, NoMemory> {
         match error {
             RecordErr::Op | RecordErr::Head => self.op_wrong(alloc, json),
-            RecordErr::Shape => Ok(is_wrong(reply_misfit(alloc, self.bound, json)?, NO_VALUE)),
-            _ => Ok(is_wrong(keys_reported(alloc, self.bound.back(), json)?, NO_RECORD)),
+            RecordErr::Shape => Ok(is_wrong(
+                reply_misfit(alloc, self.bound, json)?,
+                misfit_cause(),
+            )),
+            _ => Ok(is_wrong(
+                keys_reported(alloc, self.bound.back(), json)?,
+                Cause::of(
+                    "a reply record has op, and result and outs or raise and members, and nothing else.",
+                    "docs/COMMANDS.md has the members of a reply record.",
+                ),
+            )),
         }
     }
 
     /// An operation that is not there, or has no reply.
     fn op_wrong(&self, alloc: Global, json: &Json) -> Result<Option<Wrong>, NoMemory> {
         let cause = match op_of(alloc, self.bound, json)? {
-            Some(_) => NO_REPLY,
-            None => NO_OPERATION,
+            Some(_) => Cause::of(
+                "nothing is sent back for a oneway operation or a simpleroutine.",
+                "name an operation with a reply.",
+            ),
+            None => unknown_op_cause(),
         };
         Ok(is_wrong(replying_reported(alloc, self.bound, json)?, cause))
     }
@@ -196,7 +218,13 @@ impl Lined<'_> {
                 let reported = format!(in alloc;
                     "line {line} gives a reply to the same operation"
                 )?;
-                Ok(is_wrong(reported, AGAIN))
+                Ok(is_wrong(
+                    reported,
+                    Cause::of(
+                        "an operation has at most one reply in the file.",
+                        "leave one of the two lines out.",
+                    ),
+                ))
             }
             None => self.length_wrong(alloc, record),
         }
@@ -246,7 +274,13 @@ impl Lined<'_> {
             return Ok(None);
         }
         let reported = text_of(alloc, "the message of the reply is too long")?;
-        Ok(is_wrong(reported, LONG))
+        Ok(is_wrong(
+            reported,
+            Cause::of(
+                "a message has at most 4,194,304 octets.",
+                "give a shorter reply.",
+            ),
+        ))
     }
 }
 

@@ -77,22 +77,15 @@ impl Known<'_> {
             (b"replies", Some(path), _) => {
                 self.replies_refused(alloc, path, answer, refusal.kind)
             }
-            (b"stubs", _, Some(path)) => self.stubs_refused(alloc, path, answer, refusal.kind),
+            (b"stubs", _, Some(path)) => {
+                or_unsaid(
+                    alloc,
+                    stubs_reported(alloc, path, refusal.kind)?,
+                    path,
+                    answer,
+                )
+            }
             _ => self.file_reported(alloc, answer),
-        }
-    }
-
-    /// What is said of a refusal of the file of stubs.
-    fn stubs_refused(
-        &self,
-        alloc: Global,
-        path: &[u8],
-        answer: &[u8],
-        word: &[u8],
-    ) -> Result<String, NoMemory> {
-        match stubs_reported(alloc, path, word)? {
-            Some(reported) => Ok(reported),
-            None => unsaid(alloc, path, answer),
         }
     }
 
@@ -109,10 +102,7 @@ impl Known<'_> {
             text: self.replies,
             bound: self.bound,
         };
-        match replies_reported(alloc, &given, word)? {
-            Some(reported) => Ok(reported),
-            None => unsaid(alloc, path, answer),
-        }
+        or_unsaid(alloc, replies_reported(alloc, &given, word)?, path, answer)
     }
 
     /// What is said of a refusal of the interface file.
@@ -132,10 +122,7 @@ impl Known<'_> {
             path,
             text,
         };
-        match file_detail(alloc, &file, answer)? {
-            Some(reported) => Ok(reported),
-            None => unsaid(alloc, path, answer),
-        }
+        or_unsaid(alloc, file_detail(alloc, &file, answer)?, path, answer)
     }
 
     /// What is said of a refusal of a line.
@@ -211,8 +198,16 @@ fn file_detail(alloc: Global, file: &File<'_>, answer: &[u8]) -> Result<Option<S
     }
 }
 
-/// What is said where the file does not show the refusal.
-fn unsaid(alloc: Global, path: &[u8], answer: &[u8]) -> Result<String, NoMemory> {
+/// What is said, if something is, or else that the file does not show the refusal.
+fn or_unsaid(
+    alloc: Global,
+    reported: Option<String>,
+    path: &[u8],
+    answer: &[u8],
+) -> Result<String, NoMemory> {
+    if let Some(reported) = reported {
+        return Ok(reported);
+    }
     let path = shown(alloc, path)?;
     let answer = shown(alloc, answer)?;
     Ok(format!(in alloc; "{path}: nothing more is known of '{answer}'\n")?)

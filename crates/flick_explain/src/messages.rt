@@ -23,24 +23,9 @@ pub fn detail(
     refusal: &Refusal<'_>,
     line: &[u8],
 ) -> Result<String, NoMemory> {
-    if refusal.word == b"long".as_slice() {
-        return Ok(format!(in alloc; "the line has {} octets", line.len())?);
-    }
-    match verb {
-        Verb::Unreply => reply_line_reported(alloc, bound, refusal, line),
-        _ => line_reported(alloc, verb, bound, refusal, line),
-    }
-}
-
-/// What a line has that was refused as a record or as a message.
-fn line_reported(
-    alloc: Global,
-    verb: Verb,
-    bound: &Bound,
-    refusal: &Refusal<'_>,
-    line: &[u8],
-) -> Result<String, NoMemory> {
     match refusal.word {
+        b"long" => Ok(format!(in alloc; "the line has {} octets", line.len())?),
+        _ if verb == Verb::Unreply => reply_line_reported(alloc, bound, refusal, line),
         b"json" => json_reported(alloc, line),
         b"request" | b"op" | b"value" => match json_of(alloc, line)? {
             Some(json) => record_detail(alloc, verb, bound, refusal, &json),

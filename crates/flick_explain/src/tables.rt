@@ -1,6 +1,6 @@
 //! `--octets`: the tables of the messages on standard input.
 
-use crate::answers::{binding, write};
+use crate::answers::{binding, next_line, write};
 use crate::command::{Run, Verb, run_in};
 use crate::ended::Ended;
 use crate::octets::{digits_reported, message_of};
@@ -10,7 +10,7 @@ use crate::text::shown;
 use flick_octets::{Table, print_table, tell_reply, tell_request};
 use json_shape::reply_named;
 use kit_base::limits::{LONGEST_LINE, MOST_INPUT};
-use kit_base::{Line, LineErr, Lines, NoMemory, Octets, Shelf, Sink, Source, Words};
+use kit_base::{Line, Lines, NoMemory, Octets, Shelf, Sink, Source, Words};
 use pres::Bound;
 use std::alloc::Global;
 
@@ -124,16 +124,10 @@ fn tell_line<S: Source, K: Sink>(
     input: &mut S,
     output: &mut K,
 ) -> Result<bool, Ended> {
-    match lines.next(input) {
-        Ok(line) => {
-            let text = line_text(alloc, bound, op, number, &line)?;
-            write(output, text.as_bytes())?;
-            Ok(!line.is_end())
-        }
-        Err(LineErr::Failed) => Err(Ended::Source),
-        Err(LineErr::TooMuch) => Err(Ended::Length),
-        Err(LineErr::NoMemory) => Err(Ended::NoMemory),
-    }
+    let line = next_line(lines, input)?;
+    let text = line_text(alloc, bound, op, number, &line)?;
+    write(output, text.as_bytes())?;
+    Ok(!line.is_end())
 }
 
 /// What is written for a line.

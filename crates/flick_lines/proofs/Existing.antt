@@ -7,7 +7,7 @@ use Rattle.hex.specs.Hex.{decode_of}
 use Rattle.hex.specs.declared.error.FromHexError.{FromHexError}
 use Rattle.hex.proofs.HexLemmas.{decode_of-ok}
 use Rattle.mint.specs.Sound.{IsSound, ArmsSound}
-use Rattle.mint.specs.Types.{Scalar, Ty, void_type, scalar_type, array_type, group_type, items_type, choice_type, maybe_type, Arms, no_other, others, arm_type as arm_of, type_at}
+use Rattle.mint.specs.Types.{Scalar, Ty, void_type, choice_type, Arms, no_other, others, arm_type as arm_of, type_at}
 use Rattle.pres.specs.declared.ops.Op.{Op}
 use Rattle.pres.specs.Bindings.{Binding}
 use Rattle.serde_json.specs.Data.{Data}
@@ -104,12 +104,7 @@ arm_sound s (arm_of m t arms) k h =
 
 in_sound : (t : Ty) (k : ℕ) → IsSound t → IsSound (unwrap_or (arm_type_in t k) void_type)
 in_sound (choice_type s arms) k h = arm_sound s arms k h.1
-in_sound void_type k h = refl
-in_sound (scalar_type s) k h = refl
-in_sound (array_type a) k h = refl
-in_sound (group_type ts) k h = refl
-in_sound (items_type c t) k h = refl
-in_sound (maybe_type t) k h = refl
+in_sound _ k h = refl
 
 -- the types of a binding's table are sound, and so are those of its requests and replies
 pub all_fit : (b : Binding) → ((id : ℕ) → IsSound (type_at b.nodes id)) → IsFit b

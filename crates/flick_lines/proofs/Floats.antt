@@ -6,7 +6,7 @@ use Rattle.std.specs.Ordering.{match_ordering, int_eq}
 use Rattle.mint.specs.declared.kind.Kind.{Kind}
 use Rattle.mint.specs.declared.kind.Kind.TheVariants as kind
 use Rattle.mint.specs.Kinds.{in_range}
-use Rattle.mint.specs.Values.{Val, void, num, row, group, items, arm, absent, present, Vals, no_more, val, seen}
+use Rattle.mint.specs.Values.{Val, num, row, group, items, arm, present, Vals, no_more, val, seen}
 use Rattle.wire_def.specs.declared.encoding.Back.{Back}
 use Rattle.wire_def.specs.declared.head.Head.{Head}
 use Rattle.wire_def.specs.declared.outcome.Outcome.{Outcome}
@@ -19,7 +19,7 @@ use Rattle.pres.specs.Bindings.{Binding}
 use Rattle.pres.specs.Faces.{Face, Parts, no_parts, part, Arms, Sign, face_at}
 use Rattle.pres.specs.Faces as face
 use Rattle.pres.specs.Raises.{raises}
-use Rattle.serde_json.specs.Data.{Data, null, boolean, number, unsigned, string, array, object, no_items, item, Members, no_members, member, put}
+use Rattle.serde_json.specs.Data.{Data, null, number, unsigned, string, array, no_items, item, Members, no_members, member, put}
 use Rattle.serde_json.specs.Find.{as_array, is_float, of_integer}
 use Rattle.serde_json.specs.Written.{has_float, items_have_float, members_have_float}
 use Rattle.json_shape.specs.Operations.{dotted}
@@ -64,17 +64,9 @@ if-float true a b p q = p
 if-float false a b p q = q
 
 tree-float : (k : Kind) (n : ℤ) → has_float (number_tree k n) ≡ false
-tree-float kind.Octet n = integer-float n
-tree-float kind.I8 n = integer-float n
-tree-float kind.U8 n = integer-float n
 tree-float kind.Char n = refl
-tree-float kind.I16 n = integer-float n
-tree-float kind.U16 n = integer-float n
-tree-float kind.I32 n = integer-float n
-tree-float kind.U32 n = integer-float n
-tree-float kind.I64 n = integer-float n
-tree-float kind.U64 n = integer-float n
 tree-float kind.Bool n = refl
+tree-float _ n = integer-float n
 
 number-float : (k : Kind) (n : ℤ) → has_float (number_json k n) ≡ false
 number-float k n = if-float (in_range k n) (number_tree k n) null (tree-float k n) refl
@@ -108,63 +100,21 @@ mutual
   json-float : (f : Face) (v : Val) → has_float (json_of f v) ≡ false
   json-float face.nothing v = refl
   json-float (face.scalar s) (num n) = sign-float s n
-  json-float (face.scalar s) void = refl
-  json-float (face.scalar s) (row k ns) = refl
-  json-float (face.scalar s) (group vs) = refl
-  json-float (face.scalar s) (items vs) = refl
-  json-float (face.scalar s) (arm n v) = refl
-  json-float (face.scalar s) absent = refl
-  json-float (face.scalar s) (present v) = refl
+  json-float (face.scalar s) _ = refl
   json-float (face.numbers a) (row k ns) = row-float k ns
-  json-float (face.numbers a) void = refl
-  json-float (face.numbers a) (num n) = refl
-  json-float (face.numbers a) (group vs) = refl
-  json-float (face.numbers a) (items vs) = refl
-  json-float (face.numbers a) (arm n v) = refl
-  json-float (face.numbers a) absent = refl
-  json-float (face.numbers a) (present v) = refl
+  json-float (face.numbers a) _ = refl
   json-float (face.values ps) (group vs) = order-float ps vs
-  json-float (face.values ps) void = refl
-  json-float (face.values ps) (num n) = refl
-  json-float (face.values ps) (row k ns) = refl
-  json-float (face.values ps) (items vs) = refl
-  json-float (face.values ps) (arm n v) = refl
-  json-float (face.values ps) absent = refl
-  json-float (face.values ps) (present v) = refl
+  json-float (face.values ps) _ = refl
   json-float (face.members ps) (group vs) = names-float ps vs
-  json-float (face.members ps) void = refl
-  json-float (face.members ps) (num n) = refl
-  json-float (face.members ps) (row k ns) = refl
-  json-float (face.members ps) (items vs) = refl
-  json-float (face.members ps) (arm n v) = refl
-  json-float (face.members ps) absent = refl
-  json-float (face.members ps) (present v) = refl
+  json-float (face.members ps) _ = refl
   json-float (face.list c f) (items vs) = list-float (json_of f) (json-float f) vs
-  json-float (face.list c f) void = refl
-  json-float (face.list c f) (num n) = refl
-  json-float (face.list c f) (row k ns) = refl
-  json-float (face.list c f) (group vs) = refl
-  json-float (face.list c f) (arm n v) = refl
-  json-float (face.list c f) absent = refl
-  json-float (face.list c f) (present v) = refl
+  json-float (face.list c f) _ = refl
   json-float (face.choice s arms) (arm n v) =
       put-float (codes "tag") (sign_json s n) (put (codes "value") (after_json arms n v) no_members) (sign-float s n)
       (put-float (codes "value") (after_json arms n v) no_members (after-float arms n v) refl)
-  json-float (face.choice s arms) void = refl
-  json-float (face.choice s arms) (num n) = refl
-  json-float (face.choice s arms) (row k ns) = refl
-  json-float (face.choice s arms) (group vs) = refl
-  json-float (face.choice s arms) (items vs) = refl
-  json-float (face.choice s arms) absent = refl
-  json-float (face.choice s arms) (present v) = refl
-  json-float (face.maybe f) absent = refl
+  json-float (face.choice s arms) _ = refl
   json-float (face.maybe f) (present v) = or_from (has_float (json_of f v)) false (json-float f v) refl
-  json-float (face.maybe f) void = refl
-  json-float (face.maybe f) (num n) = refl
-  json-float (face.maybe f) (row k ns) = refl
-  json-float (face.maybe f) (group vs) = refl
-  json-float (face.maybe f) (items vs) = refl
-  json-float (face.maybe f) (arm n v) = refl
+  json-float (face.maybe f) _ = refl
 
   order-float : (ps : Parts) (vs : Vals) → items_have_float (in_order_json ps vs) ≡ false
   order-float no_parts vs = refl
@@ -208,11 +158,7 @@ array-float (array no_items) p = refl
 array-float (array (item d ds)) p =
     put-float (codes "result") d (put (codes "outs") (array ds) no_members) (no-float-first (has_float d) (items_have_float ds) p)
     (put-float (codes "outs") (array ds) no_members (no-float-rest (has_float d) (items_have_float ds) p) refl)
-array-float null p = refl
-array-float (boolean b) p = refl
-array-float (number n) p = refl
-array-float (string s) p = refl
-array-float (object ms) p = refl
+array-float _ p = refl
 
 raised-float : (t : Bool) (name : List ℕ) (d : Data) → has_float d ≡ false
     → members_have_float (if t then put (codes "raise") (string name) (put (codes "members") d no_members) else no_members) ≡ false
@@ -229,35 +175,15 @@ arm-float rs (negsuc k) d p = refl
 choice-float : (rs : List PlainRaise) (s : Sign) (arms : Arms) (v : Val)
     → members_have_float (answer_members rs (face.choice s arms) v) ≡ false
 choice-float rs s arms (arm n v) = arm-float rs n (after_json arms n v) (after-float arms n v)
-choice-float rs s arms void = refl
-choice-float rs s arms (num n) = refl
-choice-float rs s arms (row k ns) = refl
-choice-float rs s arms (group vs) = refl
-choice-float rs s arms (items vs) = refl
-choice-float rs s arms absent = refl
-choice-float rs s arms (present v) = refl
+choice-float rs s arms _ = refl
 
 answer-float : (rs : List PlainRaise) (f : Face) (v : Val) → members_have_float (answer_members rs f v) ≡ false
 answer-float rs (face.choice s arms) v = choice-float rs s arms v
-answer-float rs face.nothing v = refl
-answer-float rs (face.scalar s) v = refl
-answer-float rs (face.numbers a) v = refl
-answer-float rs (face.values ps) v = refl
-answer-float rs (face.members ps) v = refl
-answer-float rs (face.list c f) v = refl
-answer-float rs (face.maybe f) v = refl
+answer-float rs _ v = refl
 
 says-float : (why : Refusal) → items_have_float (refusal_says why) ≡ false
-says-float refusal.ProgUnavail = refl
-says-float (refusal.ProgMismatch low high) = refl
-says-float refusal.ProcUnavail = refl
-says-float refusal.GarbageArgs = refl
-says-float refusal.SystemErr = refl
-says-float (refusal.RpcMismatch low high) = refl
-says-float (refusal.AuthError status) = refl
-says-float (refusal.SystemException id minor completion) = refl
-says-float (refusal.UserException id) = refl
 says-float (refusal.RetCode code) = or_from (is_float (of_integer code)) false (integer-float code) refl
+says-float _ = refl
 
 refused-float : (why : Refusal) → members_have_float (refused_members why) ≡ false
 refused-float why =

@@ -36,10 +36,8 @@ paid-refusal : (run : Runs) (x : Result Begun RecordErr) (e : RecordErr) → Com
     → (buf : Buf) → IsPaidRecord run x buf buf
 paid-refusal run (Err f) e comes other buf = refl
 paid-refusal run (Ok begun) errors.NoMemory comes other buf = absurd (other refl)
-paid-refusal run (Ok begun) errors.Request comes other buf = absurd comes
-paid-refusal run (Ok begun) errors.Op comes other buf = absurd comes
-paid-refusal run (Ok begun) errors.Head comes other buf = absurd comes
 paid-refusal run (Ok begun) errors.Shape comes other buf = (λ v p. absurd (comes v p), λ none. refl)
+paid-refusal run (Ok begun) _ comes other buf = absurd comes
 
 -- the same, where the binding is known by another name
 pub paid-refused : (run : Runs) (begun : Binding → Beginning) (b c : Binding) (tree : Data) (e : RecordErr) → c ≡ b

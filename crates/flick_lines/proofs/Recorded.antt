@@ -20,16 +20,11 @@ of-value m (Ok begun) r (op, head, presents) a is =
 
 pub of-refusal : (m : Texts) (x : Result Begun RecordErr) (e : RecordErr) → Comes x (Err e) → (e ≡ errors.NoMemory → ⊥)
     → (a : List ℕ) → a ≡ record_refusal e → IsOfRecord m x a
-of-refusal m (Err f) errors.Request comes other a is = is ∙ ap record_refusal (sym comes)
-of-refusal m (Err f) errors.Op comes other a is = is ∙ ap record_refusal (sym comes)
-of-refusal m (Err f) errors.Head comes other a is = is ∙ ap record_refusal (sym comes)
-of-refusal m (Err f) errors.Shape comes other a is = is ∙ ap record_refusal (sym comes)
 of-refusal m (Err f) errors.NoMemory comes other a is = absurd (other refl)
+of-refusal m (Err f) _ comes other a is = is ∙ ap record_refusal (sym comes)
 of-refusal m (Ok begun) errors.NoMemory comes other a is = absurd (other refl)
-of-refusal m (Ok begun) errors.Request comes other a is = absurd comes
-of-refusal m (Ok begun) errors.Op comes other a is = absurd comes
-of-refusal m (Ok begun) errors.Head comes other a is = absurd comes
 of-refusal m (Ok begun) errors.Shape comes other a is = inr (comes, is)
+of-refusal m (Ok begun) _ comes other a is = absurd comes
 
 -- the same, where the binding is known by another name
 pub refused-at : (begun : Binding → Beginning) (m : Texts) (b c : Binding) (tree : Data) (e : RecordErr) → c ≡ b
@@ -40,8 +35,5 @@ refused-at begun m b c tree e same comes other a is =
 
 -- a refusal begins with `!`
 pub marked : (e : RecordErr) (a : List ℕ) → (e ≡ errors.NoMemory → ⊥) → a ≡ record_refusal e → slice_index a 0 ≡ 33
-marked errors.Request a other is = ap (λ (o : List ℕ). slice_index o 0) is
-marked errors.Op a other is = ap (λ (o : List ℕ). slice_index o 0) is
-marked errors.Head a other is = ap (λ (o : List ℕ). slice_index o 0) is
-marked errors.Shape a other is = ap (λ (o : List ℕ). slice_index o 0) is
 marked errors.NoMemory a other is = absurd (other refl)
+marked _ a other is = ap (λ (o : List ℕ). slice_index o 0) is

@@ -135,10 +135,8 @@ reply_over b c twins op below o (Err (err.Trailing at)) (inl (t, k, (short, begi
     )
 reply_over b c twins op below o (Err (err.Trailing at)) (inr (t, why, (short, begins, fate), rest)) =
     inr (t, why, (short, begins_reply_over b c twins op o t begins, fate), rest)
-reply_over b c twins op below o (Err err.NoInterface) h = absurd h
-reply_over b c twins op below o (Err err.NoOperation) h = absurd h
-reply_over b c twins op below o (Err err.NoMemory) h = absurd h
 reply_over b c twins op below o (Ok r) h = came_over b c twins op below o r.head r.came h
+reply_over b c twins op below o _ h = absurd h
 
 -- ---- the texts of records
 

@@ -1,8 +1,8 @@
 -- Bindings of one unit over one back end have the same operations and messages, whatever numbers their nodes have.
-use Rattle.std.proofs.Common.{◌≡◌, ℕ, zero, suc, pos, negsuc, ◌<◌, List, not, [], ◌∷◌, ◌++◌, map, length, refl, sym, ap, ◌∙◌, arith}
+use Rattle.std.proofs.Common.{◌≡◌, ℕ, zero, suc, pos, ◌<◌, List, not, [], ◌∷◌, ◌++◌, map, length, refl, sym, ap, ◌∙◌, arith}
 use Rattle.std.specs.Prelude.{codes, slice_index_or, unwrap_or}
-use Rattle.mint.specs.Types.{Ty, void_type}
-use Rattle.mint.specs.Values.{Val, void, num, row, group, items, arm, absent, present}
+use Rattle.mint.specs.Types.{Ty, void_type, type_at}
+use Rattle.mint.specs.Values.{Val, arm}
 use Rattle.wire_def.specs.declared.encoding.Back.{Back}
 use Rattle.wire_def.specs.declared.encoding.Back.TheVariants as back
 use Rattle.wire_def.specs.declared.head.Head.{Head}
@@ -50,31 +50,30 @@ rest_same fs gs o p os ps e = cc e
 pub none_same : (fs gs : List Face) (p : Op) (ps : List Op) → AreSame fs gs [] (p ∷ ps) → ⊥
 none_same fs gs p ps e = cc e
 
-request_same : (fs gs : List Face) (os ps : List Op) (n : ℕ) → AreSame fs gs os ps → n < length os
-    → at fs (slice_index_or (map (λ (o : Op). o.request) os) n 0) ≡ at gs (slice_index_or (map (λ (o : Op). o.request) ps) n 0)
-request_same fs gs [] ps n e h = absurd (omega (arith, h))
-request_same fs gs (o ∷ os) [] n e h = absurd (none_same gs fs o os (sym e))
-request_same fs gs (o ∷ os) (p ∷ ps) zero e h = ap (λ (x : Offer). x.request) (first_same fs gs o p os ps e)
-request_same fs gs (o ∷ os) (p ∷ ps) (suc n) e h = request_same fs gs os ps n (rest_same fs gs o p os ps e) (omega (arith, h))
+-- the faces of a node of each of these operations, which offers have at a place
+node_same : (part : Op → ℕ) (face : Offer → Face) → ((fs : List Face) (o : Op) → face (offer_at fs o) ≡ at fs (part o))
+    → (fs gs : List Face) (os ps : List Op) (n : ℕ) → AreSame fs gs os ps → n < length os
+    → at fs (slice_index_or (map part os) n 0) ≡ at gs (slice_index_or (map part ps) n 0)
+node_same part face is fs gs [] ps n e h = absurd (omega (arith, h))
+node_same part face is fs gs (o ∷ os) [] n e h = absurd (none_same gs fs o os (sym e))
+node_same part face is fs gs (o ∷ os) (p ∷ ps) zero e h =
+    sym (is fs o) ∙ ap face (first_same fs gs o p os ps e) ∙ is gs p
+node_same part face is fs gs (o ∷ os) (p ∷ ps) (suc n) e h =
+    node_same part face is fs gs os ps n (rest_same fs gs o p os ps e) (omega (arith, h))
 
-reply_same : (fs gs : List Face) (os ps : List Op) (n : ℕ) → AreSame fs gs os ps → n < length os
-    → at fs (slice_index_or (map (λ (o : Op). o.reply) os) n 0) ≡ at gs (slice_index_or (map (λ (o : Op). o.reply) ps) n 0)
-reply_same fs gs [] ps n e h = absurd (omega (arith, h))
-reply_same fs gs (o ∷ os) [] n e h = absurd (none_same gs fs o os (sym e))
-reply_same fs gs (o ∷ os) (p ∷ ps) zero e h = ap (λ (x : Offer). x.reply) (first_same fs gs o p os ps e)
-reply_same fs gs (o ∷ os) (p ∷ ps) (suc n) e h = reply_same fs gs os ps n (rest_same fs gs o p os ps e) (omega (arith, h))
+type_alike : (part : Op → ℕ) (face : Offer → Face) → ((fs : List Face) (o : Op) → face (offer_at fs o) ≡ at fs (part o))
+    → (b c : Binding) → AreTwins b c → (op : ℕ) → op < length b.ops
+    → type_at b.nodes (slice_index_or (map part b.ops) op 0) ≡ type_at c.nodes (slice_index_or (map part c.ops) op 0)
+type_alike part face is b c t op h =
+    type_at-face b.nodes b.shapes (slice_index_or (map part b.ops) op 0) t.one.named
+    ∙ ap type_of (node_same part face is (faces_in b) (faces_in c) b.ops c.ops op (ops_alike b c t) h)
+    ∙ sym (type_at-face c.nodes c.shapes (slice_index_or (map part c.ops) op 0) t.other.named)
 
 pub request_alike : (b c : Binding) → AreTwins b c → (op : ℕ) → op < length b.ops → request_type b op ≡ request_type c op
-request_alike b c t op h =
-    type_at-face b.nodes b.shapes (slice_index_or (map (λ (o : Op). o.request) b.ops) op 0) t.one.named
-    ∙ ap type_of (request_same (faces_in b) (faces_in c) b.ops c.ops op (ops_alike b c t) h)
-    ∙ sym (type_at-face c.nodes c.shapes (slice_index_or (map (λ (o : Op). o.request) c.ops) op 0) t.other.named)
+request_alike = type_alike (λ (o : Op). o.request) (λ (x : Offer). x.request) (λ fs o. refl)
 
 pub reply_alike : (b c : Binding) → AreTwins b c → (op : ℕ) → op < length b.ops → reply_type b op ≡ reply_type c op
-reply_alike b c t op h =
-    type_at-face b.nodes b.shapes (slice_index_or (map (λ (o : Op). o.reply) b.ops) op 0) t.one.named
-    ∙ ap type_of (reply_same (faces_in b) (faces_in c) b.ops c.ops op (ops_alike b c t) h)
-    ∙ sym (type_at-face c.nodes c.shapes (slice_index_or (map (λ (o : Op). o.reply) c.ops) op 0) t.other.named)
+reply_alike = type_alike (λ (o : Op). o.reply) (λ (x : Offer). x.reply) (λ fs o. refl)
 
 pub arm_alike : (b c : Binding) → AreTwins b c → (op : ℕ) → op < length b.ops → (k : ℕ) → arm_type b op k ≡ arm_type c op k
 arm_alike b c t op h k = ap (λ (ty : Ty). unwrap_or (arm_type_in ty k) void_type) (reply_alike b c t op h)
@@ -147,11 +146,4 @@ arm_message_alike b c t m op below k h w =
 pub reply_message_alike : (b c : Binding) → AreTwins b c → (m op : ℕ) → op < length b.ops → (h : Head) (v : Val)
     → reply_message b m op h v ≡ reply_message c m op h v
 reply_message_alike b c t m op below h (arm (pos k) w) = arm_message_alike b c t m op below k h w
-reply_message_alike b c t m op below h (arm (negsuc k) w) = refl
-reply_message_alike b c t m op below h void = refl
-reply_message_alike b c t m op below h (num n) = refl
-reply_message_alike b c t m op below h (row k ns) = refl
-reply_message_alike b c t m op below h (group vs) = refl
-reply_message_alike b c t m op below h (items vs) = refl
-reply_message_alike b c t m op below h absent = refl
-reply_message_alike b c t m op below h (present v) = refl
+reply_message_alike b c t m op below h _ = refl

@@ -1,12 +1,12 @@
 -- The answers of `count`: the messages of request records, each with what the code of its operation costs that makes it.
-use Rattle.std.specs.Prelude.{◌≡◌, ◌<◌, ℕ, List, [], ◌++◌, length, nat_le, if◌then◌else◌, Option, Some, None, option_map, codes, decimal}
+use Rattle.std.specs.Prelude.{◌≡◌, ◌<◌, ℕ, List, [], ◌++◌, length, nat_le, if◌then◌else◌, Option, Some, None, option_map, unwrap_or, codes, decimal}
 use Rattle.kit_base.specs.Limits.{longest_message}
 use Rattle.hex.specs.Hex.{encode_lower}
 use Rattle.mint.specs.Typed.{IsWellTyped}
 use Rattle.mint.specs.Values.{Val}
 use Rattle.wire_def.specs.declared.head.Head.{Head}
 use Rattle.raw_buf.specs.declared.tally.Tally.{Tally}
-use Rattle.raw_buf.specs.Buf.{none}
+use Rattle.raw_buf.specs.Buf.{Buf, none}
 use Rattle.cast_stub.specs.Puts.{IsHead}
 use Rattle.stub_machine.specs.Sending.{paid}
 use Rattle.stub_codes.specs.declared.stub.Stub.{Stub}
@@ -36,6 +36,10 @@ call_counted c op h v = counted_of (message c.binding c.minor op h v) (counts_of
 -- the answer to a line as a request record, without its line feed: the message of its call, and what it costs
 abbrev pub IsCounted : Coded → List ℕ → List ℕ → Type 0
 IsCounted c line a = IsOfTree (request_of c.binding) (call_counted c) (tree_of line) a
+
+-- the answer to a line, by its refusal where there is one, and otherwise by the message that is held and its counts
+abbrev pub counted_in : Option (List ℕ) → Buf → List ℕ
+counted_in refusal held = unwrap_or refusal (encode_lower held.done ++ counts_text (Some held.tally))
 
 -- each message has counts: the code of each operation is there, and has a cost on each head and each value of its requests
 abbrev pub AllCounted : Coded → Type 0

@@ -9,6 +9,7 @@ ghost use Rattle.raw_buf.specs.Buf.{NoneFell};
 ghost use Rattle.flick_engine.specs.Messages.{message};
 ghost use Rattle.json_shape.specs.Requests.{request_of};
 ghost use Rattle.flick_lines.specs.declared.verb.Verb.TheVariants as verbs;
+ghost use Rattle.flick_lines.specs.Counted.{call_counted, counted_in, IsCounted};
 ghost use Rattle.flick_lines.specs.Marshalled.{call_digits, digits_of, record_refusal, text_in, tree_of, IsEither, IsMarshalled, IsOfRecord};
 ghost use Rattle.flick_lines.specs.Paid.{call_by_code, IsPaid, IsPaidRecord};
 
@@ -50,6 +51,7 @@ pub fn message_of(
 ) -> Result<Option<Octets>, NoMemory>
     ensures value { IfOk result (λ o. IsMarshalled engine.now.binding engine.now.minor line.now
         (text_in o buf.new.done)) }
+    ensures counts { IfOk result (λ o. IsCounted engine.now line.now (counted_in o buf.new)) }
     ensures either { IfOk result (λ o. IsEither o buf.new.done) }
     ensures spent { NoneFell buf.old.spent buf.new.spent }
     ensures paid { OnOk result (IsPaid verbs.Marshal engine.now line.now buf.old buf.new) }
@@ -69,6 +71,7 @@ fn by_tree(
 ) -> Result<Option<Octets>, NoMemory>
     ensures value { IfOk result (λ o. IsMarshalled engine.now.binding engine.now.minor line.now
         (text_in o buf.new.done)) }
+    ensures counts { IfOk result (λ o. IsCounted engine.now line.now (counted_in o buf.new)) }
     ensures either { IfOk result (λ o. IsEither o buf.new.done) }
     ensures spent { NoneFell buf.old.spent buf.new.spent }
     ensures paid { OnOk result (IsPaid verbs.Marshal engine.now line.now buf.old buf.new) }
@@ -107,6 +110,8 @@ fn of_tree(
 ) -> Result<Option<Octets>, NoMemory>
     ensures value { IfOk result (λ o. IsOfRecord (call_digits engine.now.binding engine.now.minor)
         (request_of engine.now.binding (view json.now)) (text_in o buf.new.done)) }
+    ensures counts { IfOk result (λ o. IsOfRecord (call_counted engine.now)
+        (request_of engine.now.binding (view json.now)) (counted_in o buf.new)) }
     ensures either { IfOk result (λ o. IsEither o buf.new.done) }
     ensures spent { NoneFell buf.old.spent buf.new.spent }
     ensures paid { OnOk result (IsPaidRecord (call_by_code engine.now)
@@ -144,6 +149,8 @@ fn made_of(
         (λ o. IsWellTyped (type_at engine.now.binding.nodes o.request) (seen record.now.value)) }
     ensures value { IfOk result (λ o. text_in o buf.new.done ≡ digits_of
         (message engine.now.binding engine.now.minor record.now.op record.now.head (seen record.now.value))) }
+    ensures counts { IfOk result (λ o. counted_in o buf.new
+        ≡ call_counted engine.now record.now.op record.now.head (seen record.now.value)) }
     ensures either { IfOk result (λ o. IsEither o buf.new.done) }
     ensures spent { NoneFell buf.old.spent buf.new.spent }
     ensures paid { OnOk result (call_by_code engine.now record.now.op record.now.head

@@ -1,13 +1,10 @@
 //! The octets of a body, node by node.
 
-use crate::entry::{Said, What};
+use crate::entry::What;
 use crate::layout::{filling_of, gap_of, width_of};
-use crate::sayings::{
-    field_path, item_said, length_said, member_path, number_said, place_path, presence_said,
-};
-use crate::scalars::{number_at, value_at};
+use crate::sayings::{Sense, field_path, member_path, number_said, place_path, said_of};
+use crate::scalars::{nodes_of_kinds, number_at, value_at};
 use crate::sheet::{Halt, Sheet};
-use crate::texts::owned;
 use kit_base::NoMemory;
 use mint::kind::{Count, Kind};
 use mint::node::{Arms, Node, NodeIds, Tag, arm_of};
@@ -21,16 +18,33 @@ use wire_def::Encoding;
 pub(crate) const LEVELS: u32 = 64;
 
 /// A message with the layout of its body.
-#[derive(Clone, Copy)]
+#[derive(Drop)]
 pub(crate) struct Body<'a> {
     /// The interface file, bound.
     pub(crate) bound: &'a Bound,
     /// A node for each kind of number.
-    pub(crate) kinds: &'a Mint,
+    pub(crate) kinds: Mint,
     /// How the body is laid out.
     pub(crate) encoding: Encoding,
     /// The message.
     pub(crate) message: &'a [u8],
+}
+
+impl<'a> Body<'a> {
+    /// The body of a message that is laid out so.
+    pub(crate) fn new(
+        alloc: Global,
+        bound: &'a Bound,
+        encoding: Encoding,
+        message: &'a [u8],
+    ) -> Result<Body<'a>, NoMemory> {
+        Ok(Body {
+            bound,
+            kinds: nodes_of_kinds(alloc)?,
+            encoding,
+            message,
+        })
+    }
 }
 
 impl Body<'_> {
@@ -47,7 +61,7 @@ impl Body<'_> {
 
     /// The number of a kind that stands by itself at a place, where it is read.
     fn number(&self, alloc: Global, kind: Kind, place: usize) -> Result<Option<i128>, NoMemory> {
-        number_at(alloc, self.encoding, self.kinds, kind, place, self.message)
+        number_at(alloc, self.encoding, &self.kinds, kind, place, self.message)
     }
 
     /// The octets that align the next number, which has so many.
@@ -61,30 +75,30 @@ impl Body<'_> {
         tell_padding(sheet, gap, path)
     }
 
-    /// What leads to a number of a kind by itself, its octets, and what fills its item up.
-    pub(crate) fn tell_lone(
+    /// A number of a kind by itself, with what leads to it and what fills its item up. The number, where it is read.
+    fn tell_lone(
         &self,
         sheet: &mut Sheet<'_>,
         kind: Kind,
+        sense: Sense<'_>,
         path: &str,
-        said: Said,
-    ) -> Result<(), Halt> {
+    ) -> Result<Option<i128>, Halt> {
+        let alloc = sheet.alloc();
+        let n = self.number(alloc, kind, sheet.end())?;
+        let said = number_said(alloc, path, kind, sense, n)?;
         let width = width_of(self.encoding, kind);
         if let Encoding::Mach = self.encoding {
             tell_descriptor(sheet, 4, path)?;
         }
         self.tell_gap(sheet, width, path)?;
         sheet.tell(width, said)?;
-        tell_padding(sheet, filling_of(self.encoding, width), path)
+        tell_padding(sheet, filling_of(self.encoding, width), path)?;
+        Ok(n)
     }
 
     /// A length by itself, and what it is.
     pub(crate) fn tell_count(&self, sheet: &mut Sheet<'_>, path: &str) -> Result<usize, Halt> {
-        let alloc = sheet.alloc();
-        let n = self.number(alloc, Kind::U32, sheet.end())?;
-        let said = length_said(alloc, path, n)?;
-        self.tell_lone(sheet, Kind::U32, path, said)?;
-        match n {
+        match self.tell_lone(sheet, Kind::U32, Sense::Length, path)? {
             Some(n) => match usize::try_from(n) {
                 Ok(n) => Ok(n),
                 Err(_) => Err(sheet.fault()),
@@ -100,16 +114,8 @@ fn tell_other(sheet: &mut Sheet<'_>, n: usize, what: What, path: &str) -> Result
         return Ok(());
     }
     let alloc = sheet.alloc();
-    let path = owned(alloc, path)?;
-    sheet.tell(
-        n,
-        Said {
-            what,
-            path,
-            of_type: String::new(alloc),
-            value: String::new(alloc),
-        },
-    )
+    let said = said_of(alloc, what, path, String::new(alloc), String::new(alloc))?;
+    sheet.tell(n, said)
 }
 
 /// So many octets, if any, that align or fill up.
@@ -142,13 +148,13 @@ impl Body<'_> {
         };
         match node {
             Node::Void => Ok(()),
-            Node::Num(kind) => self.tell_number(sheet, *kind, path),
-            Node::Enum(_) => self.tell_item(sheet, shape, path),
+            Node::Num(kind) => self.tell_number(sheet, *kind, Sense::Number, path),
+            Node::Enum(_) => self.tell_number(sheet, Kind::I32, Sense::Item(shape), path),
             Node::Text(count) => self.tell_text(sheet, id, *count, path),
             Node::Row(kind, count) => self.tell_row(sheet, id, *kind, *count, path),
             Node::Group(ids) => match shape {
-                Shape::FieldNames(names) => self.tell_fields(sheet, ids, names, levels, path),
-                _ => self.tell_places(sheet, ids, levels, path),
+                Shape::FieldNames(names) => self.tell_fields(sheet, ids, Some(names), levels, path),
+                _ => self.tell_fields(sheet, ids, None, levels, path),
             },
             Node::Items(item, count) => self.tell_items(sheet, *item, *count, levels, path),
             Node::Choice(tag, arms, other) => {
@@ -173,50 +179,30 @@ impl Body<'_> {
         }
     }
 
-    /// A number.
-    fn tell_number(&self, sheet: &mut Sheet<'_>, kind: Kind, path: &str) -> Result<(), Halt> {
-        let alloc = sheet.alloc();
-        let n = self.number(alloc, kind, sheet.end())?;
-        let said = number_said(alloc, path, kind, n)?;
-        self.tell_lone(sheet, kind, path, said)
+    /// A number that is a value.
+    fn tell_number(
+        &self,
+        sheet: &mut Sheet<'_>,
+        kind: Kind,
+        sense: Sense<'_>,
+        path: &str,
+    ) -> Result<(), Halt> {
+        self.tell_lone(sheet, kind, sense, path)?;
+        Ok(())
     }
 
-    /// An item of an enum.
-    fn tell_item(&self, sheet: &mut Sheet<'_>, shape: &Shape, path: &str) -> Result<(), Halt> {
-        let alloc = sheet.alloc();
-        let n = self.number(alloc, Kind::I32, sheet.end())?;
-        let said = item_said(alloc, path, shape, n)?;
-        self.tell_lone(sheet, Kind::I32, path, said)
-    }
-
-    /// The fields of a struct, by their names.
+    /// The fields of a struct, by their names, or by their places where they have none.
     #[cycle(walk)]
     fn tell_fields(
         &self,
         sheet: &mut Sheet<'_>,
         ids: &NodeIds,
-        names: &FieldTable,
+        names: Option<&FieldTable>,
         levels: u32,
         path: &str,
     ) -> Result<(), Halt> {
         for (i, id) in ids.as_slice().iter().enumerate() {
             let inner = field_path(sheet.alloc(), path, names, i)?;
-            self.tell_part(sheet, *id, levels, inner.as_str())?;
-        }
-        Ok(())
-    }
-
-    /// Values one after the other, by their places.
-    #[cycle(walk)]
-    fn tell_places(
-        &self,
-        sheet: &mut Sheet<'_>,
-        ids: &NodeIds,
-        levels: u32,
-        path: &str,
-    ) -> Result<(), Halt> {
-        for (i, id) in ids.as_slice().iter().enumerate() {
-            let inner = place_path(sheet.alloc(), path, i)?;
             self.tell_part(sheet, *id, levels, inner.as_str())?;
         }
         Ok(())
@@ -273,19 +259,12 @@ impl Body<'_> {
         tag: &Tag,
         path: &str,
     ) -> Result<Option<i128>, Halt> {
-        let alloc = sheet.alloc();
-        let inner = member_path(alloc, path, "tag")?;
-        let kind = match tag {
-            Tag::Num(kind) => *kind,
-            Tag::Enum(_) => Kind::I32,
+        let inner = member_path(sheet.alloc(), path, "tag")?;
+        let (kind, sense) = match tag {
+            Tag::Num(kind) => (*kind, Sense::Number),
+            Tag::Enum(_) => (Kind::I32, Sense::Item(shape)),
         };
-        let n = self.number(alloc, kind, sheet.end())?;
-        let said = match tag {
-            Tag::Num(_) => number_said(alloc, inner.as_str(), kind, n)?,
-            Tag::Enum(_) => item_said(alloc, inner.as_str(), shape, n)?,
-        };
-        self.tell_lone(sheet, kind, inner.as_str(), said)?;
-        Ok(n)
+        self.tell_lone(sheet, kind, sense, inner.as_str())
     }
 
     /// An optional value: whether it is there, and it.
@@ -297,7 +276,7 @@ impl Body<'_> {
         levels: u32,
         path: &str,
     ) -> Result<(), Halt> {
-        match self.tell_presence(sheet, path)? {
+        match self.tell_lone(sheet, Kind::Bool, Sense::Presence, path)? {
             Some(0) => Ok(()),
             Some(_) => {
                 let inner = place_path(sheet.alloc(), path, 0)?;
@@ -305,14 +284,5 @@ impl Body<'_> {
             }
             None => Err(sheet.fault()),
         }
-    }
-
-    /// Whether an optional value is there, where that is read.
-    fn tell_presence(&self, sheet: &mut Sheet<'_>, path: &str) -> Result<Option<i128>, Halt> {
-        let alloc = sheet.alloc();
-        let n = self.number(alloc, Kind::Bool, sheet.end())?;
-        let said = presence_said(alloc, path, n)?;
-        self.tell_lone(sheet, Kind::Bool, path, said)?;
-        Ok(n)
     }
 }

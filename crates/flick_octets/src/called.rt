@@ -4,10 +4,9 @@ ghost use Rattle.std.specs.Prelude.{◌≡◌, ◌≤◌, Some, None, IfOk, leng
 ghost use Rattle.flick_octets.specs.Laid.{laid};
 
 use crate::body::{Body, LEVELS};
-use crate::scalars::nodes_of_kinds;
 use crate::sheet::{Halt, Sheet};
 use crate::stops::{Stop, Why};
-use crate::table::{Table, table_of, table_of_long};
+use crate::table::{Table, end_of, table_of, table_of_long};
 use crate::{giop, mach, onc};
 use head_kit::{CallHead, CallTarget};
 use kit_base::NoMemory;
@@ -30,16 +29,11 @@ pub fn tell_request(alloc: Global, bound: &Bound, message: &[u8]) -> Result<Tabl
     let mut sheet = Sheet::new(alloc, message, message.len());
     let told = tell_head(&mut sheet, bound.back());
     let place = place_of(&sheet, told)?;
-    match read_called(bound, message) {
-        Err(fault) => {
-            let stop = Stop {
-                why: Why::Head(fault),
-                at: place,
-            };
-            table_of(sheet, None, Some(stop), message)
-        }
-        Ok(called) => tell_called(bound, &called, sheet, message),
-    }
+    let (op, stop) = match read_called(bound, message) {
+        Err(fault) => (None, Some(Stop::new(Why::Head(fault), place))),
+        Ok(called) => tell_called(bound, &called, &mut sheet, message)?,
+    };
+    table_of(sheet, op, stop, message)
 }
 
 /// What the head of a message names.
@@ -69,98 +63,79 @@ pub(crate) fn place_of(sheet: &Sheet<'_>, told: Result<(), Halt>) -> Result<usiz
     }
 }
 
-/// The table of a request by what its head names.
+/// The octets after the head of a request: the operation that it names, and the first fault, where there are such.
 fn tell_called(
     bound: &Bound,
     called: &CallHead,
-    sheet: Sheet<'_>,
+    sheet: &mut Sheet<'_>,
     message: &[u8],
-) -> Result<Table, NoMemory>
-    ensures laid { IfOk result (λ t. laid 0 t.entries.items ≡ Some t.end) }
-    ensures within { IfOk result (λ t. t.end ≤ length message.now) }
-    ensures whole { IfOk result (λ t. t.stop ≡ None → t.end ≡ length message.now) }
-{
-    let why = match called.naming {
-        CallTarget::Operation(op) => {
-            return tell_arguments(bound, called, op, sheet, message);
-        }
-        CallTarget::NoInterface => Why::Interface,
-        CallTarget::NoOperation => Why::Operation,
-    };
-    let stop = Stop {
-        why,
-        at: called.used,
-    };
-    table_of(sheet, None, Some(stop), message)
+) -> Result<(Option<u32>, Option<Stop>), NoMemory> {
+    match called.naming {
+        CallTarget::Operation(op) => tell_arguments(bound, called, op, sheet, message),
+        CallTarget::NoInterface => Ok((None, Some(Stop::new(Why::Interface, called.used)))),
+        CallTarget::NoOperation => Ok((None, Some(Stop::new(Why::Operation, called.used)))),
+    }
 }
 
-/// The table of a request to an operation, whose head is told.
+/// The same of a request to an operation.
 fn tell_arguments(
     bound: &Bound,
     called: &CallHead,
     op: u32,
-    sheet: Sheet<'_>,
+    sheet: &mut Sheet<'_>,
     message: &[u8],
-) -> Result<Table, NoMemory>
-    ensures laid { IfOk result (λ t. laid 0 t.entries.items ≡ Some t.end) }
-    ensures within { IfOk result (λ t. t.end ≤ length message.now) }
-    ensures whole { IfOk result (λ t. t.stop ≡ None → t.end ≡ length message.now) }
-{
-    let alloc = sheet.alloc();
+) -> Result<(Option<u32>, Option<Stop>), NoMemory> {
     let Some(operation) = bound.ops().get(op as usize) else {
-        return table_of(sheet, None, None, message);
+        return Ok((None, None));
     };
-    let kinds = nodes_of_kinds(alloc)?;
-    let body = Body {
-        bound,
-        kinds: &kinds,
-        encoding: called.encoding,
-        message,
-    };
-    let stop = body.stop(alloc, operation.request, called.used)?;
-    let mut sheet = sheet.limited(limit_of(&stop, message));
-    let told = body.tell(&mut sheet, operation.request, LEVELS, "args");
-    place_of(&sheet, told)?;
-    table_of(sheet, Some(op), stop, message)
+    let body = Body::new(sheet.alloc(), bound, called.encoding, message)?;
+    let stop = body.tell_all(sheet, Part::Arguments, operation.request, called.used)?;
+    Ok((Some(op), stop))
 }
 
-/// The place up to which the octets of a message are told.
-pub(crate) fn limit_of(stop: &Option<Stop>, message: &[u8]) -> usize {
-    match stop {
-        Some(stop) => stop.at.min(message.len()),
-        None => message.len(),
-    }
+/// What a body is.
+#[derive(Clone, Copy)]
+pub(crate) enum Part {
+    /// The arguments of a request.
+    Arguments,
+    /// The result of a reply, and what comes out.
+    Results,
+    /// The members of an exception.
+    Members,
 }
 
 impl Body<'_> {
-    /// The first fault of the body of a node from a place on, where there is one.
-    pub(crate) fn stop(
+    /// The octets of a body, a value of a node from a place on. Its first fault, where there is one.
+    pub(crate) fn tell_all(
         &self,
-        alloc: Global,
+        sheet: &mut Sheet<'_>,
+        part: Part,
         id: NodeId,
         place: usize,
     ) -> Result<Option<Stop>, NoMemory> {
+        let stop = self.stop(sheet.alloc(), id, place)?;
+        sheet.set_limit(end_of(&stop, self.message));
+        let told = match part {
+            Part::Arguments => self.tell(sheet, id, LEVELS, "args"),
+            Part::Results => self.tell_results(sheet, id),
+            Part::Members => self.tell(sheet, id, LEVELS, "members"),
+        };
+        match told {
+            Err(Halt::NoMemory) => Err(NoMemory),
+            _ => Ok(stop),
+        }
+    }
+
+    /// The first fault of the body of a node from a place on, where there is one.
+    fn stop(&self, alloc: Global, id: NodeId, place: usize) -> Result<Option<Stop>, NoMemory> {
         let mint = self.bound.mint();
         let total = self.message.len();
         if id as usize >= mint.len() || place > total || total > LONGEST_MESSAGE {
             return Ok(None);
         }
         match plain_read(alloc, self.encoding, mint, id, place, self.message)? {
-            Read::Value(_, used) => {
-                let at = place.saturating_add(used);
-                Ok(if at < total {
-                    Some(Stop {
-                        why: Why::Trailing,
-                        at,
-                    })
-                } else {
-                    None
-                })
-            }
-            Read::Stop(fault) => Ok(Some(Stop {
-                why: Why::Body(fault.kind),
-                at: fault.at,
-            })),
+            Read::Value(_, used) => Ok(Stop::trailing(place.saturating_add(used), self.message)),
+            Read::Stop(fault) => Ok(Some(Stop::new(Why::Body(fault.kind), fault.at))),
         }
     }
 }

@@ -1,22 +1,12 @@
 //! Fields of heads, whatever the back end.
 
-use crate::entry::{Said, What};
+use crate::entry::What;
+use crate::sayings::{Sense, number_said, said_of};
 use crate::sheet::{Halt, Sheet};
 use crate::texts::{decimal, digits, owned};
 use head_kit::{Cursor, word};
-use kit_base::NoMemory;
-use std::alloc::Global;
+use mint::kind::Kind;
 use wire_def::Order;
-
-/// What is said of a field of a head.
-fn head_said(alloc: Global, name: &str, value: String) -> Result<Said, NoMemory> {
-    Ok(Said {
-        what: What::Head,
-        path: owned(alloc, name)?,
-        of_type: String::new(alloc),
-        value,
-    })
-}
 
 /// A field of so many octets with a value. Where they are not all there, that is the fault.
 pub(crate) fn tell_field(
@@ -28,7 +18,8 @@ pub(crate) fn tell_field(
     if sheet.rest().len() < n {
         return Err(sheet.fault());
     }
-    let said = head_said(sheet.alloc(), name, value)?;
+    let alloc = sheet.alloc();
+    let said = said_of(alloc, What::Head, name, String::new(alloc), value)?;
     sheet.tell(n, said)
 }
 
@@ -107,20 +98,16 @@ pub(crate) fn tell_choice(
     }
 }
 
-/// What is said of a length in a head.
-fn length_said(alloc: Global, name: &str, n: u32) -> Result<Said, NoMemory> {
-    Ok(Said {
-        what: What::Length,
-        path: owned(alloc, name)?,
-        of_type: owned(alloc, "u32")?,
-        value: decimal(alloc, n)?,
-    })
-}
-
 /// A length of four octets.
 pub(crate) fn tell_length(sheet: &mut Sheet<'_>, order: Order, name: &str) -> Result<u32, Halt> {
     let n = word_ahead(sheet, order)?;
-    let said = length_said(sheet.alloc(), name, n)?;
+    let said = number_said(
+        sheet.alloc(),
+        name,
+        Kind::U32,
+        Sense::Length,
+        Some(i128::from(n)),
+    )?;
     sheet.tell(4, said)?;
     Ok(n)
 }

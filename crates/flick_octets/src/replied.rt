@@ -4,10 +4,9 @@ ghost use Rattle.std.specs.Prelude.{◌≡◌, ◌≤◌, ◌<◌, Some, None, I
 ghost use Rattle.flick_octets.specs.Laid.{laid};
 
 use crate::body::{Body, LEVELS};
-use crate::called::{limit_of, place_of};
+use crate::called::{Part, place_of};
 use crate::exceptions::raise_of;
 use crate::sayings::place_path;
-use crate::scalars::nodes_of_kinds;
 use crate::sheet::{Halt, Sheet};
 use crate::stops::{Stop, Why};
 use crate::table::{Table, table_of, table_of_long};
@@ -17,7 +16,7 @@ use back_mach::routines::routine_of;
 use head_arms::exceptions_of;
 use kit_base::NoMemory;
 use kit_base::limits::LONGEST_MESSAGE;
-use mint::node::{Node, NodeIds, arm_of};
+use mint::node::{Node, arm_of};
 use mint::table::NodeId;
 use pres::Bound;
 use std::alloc::Global;
@@ -47,16 +46,11 @@ pub fn tell_reply(alloc: Global, bound: &Bound, op: u32, message: &[u8]) -> Resu
     let mut sheet = Sheet::new(alloc, message, message.len());
     let told = tell_head(&mut sheet, bound.back(), asked);
     let place = place_of(&sheet, told)?;
-    match read_head(bound.back(), asked, message) {
-        Err(fault) => {
-            let stop = Stop {
-                why: Why::Head(fault),
-                at: place,
-            };
-            table_of(sheet, Some(op), Some(stop), message)
-        }
-        Ok(reply) => tell_fate(bound, op, &reply, sheet, message),
-    }
+    let stop = match read_head(bound.back(), asked, message) {
+        Err(fault) => Some(Stop::new(Why::Head(fault), place)),
+        Ok(reply) => tell_fate(bound, op, &reply, &mut sheet, message)?,
+    };
+    table_of(sheet, Some(op), stop, message)
 }
 
 /// What the head of a reply to an operation has.
@@ -114,37 +108,18 @@ fn fate_of(bound: &Bound, op: u32, status: &Status<'_>) -> Fate {
     }
 }
 
-/// The table of a reply whose head is told.
+/// The octets after the head of a reply. The first fault, where there is one.
 fn tell_fate(
     bound: &Bound,
     op: u32,
     reply: &ReplyHead<'_>,
-    sheet: Sheet<'_>,
+    sheet: &mut Sheet<'_>,
     message: &[u8],
-) -> Result<Table, NoMemory>
-    ensures laid { IfOk result (λ t. laid 0 t.entries.items ≡ Some t.end) }
-    ensures within { IfOk result (λ t. t.end ≤ length message.now) }
-    ensures whole { IfOk result (λ t. t.stop ≡ None → t.end ≡ length message.now) }
-{
+) -> Result<Option<Stop>, NoMemory> {
     match fate_of(bound, op, &reply.status) {
         Fate::Arm(arm) => tell_answer(bound, op, arm, reply, sheet, message),
-        Fate::Unknown => table_of(sheet, Some(op), None, message),
-        Fate::Refused => {
-            let stop = trailing(reply.used, message);
-            table_of(sheet, Some(op), stop, message)
-        }
-    }
-}
-
-/// The fault of octets from a place on, where there are some.
-fn trailing(at: usize, message: &[u8]) -> Option<Stop> {
-    if at < message.len() {
-        Some(Stop {
-            why: Why::Trailing,
-            at,
-        })
-    } else {
-        None
+        Fate::Unknown => Ok(None),
+        Fate::Refused => Ok(Stop::trailing(reply.used, message)),
     }
 }
 
@@ -157,35 +132,25 @@ fn arm_node(bound: &Bound, op: u32, arm: u32) -> Option<NodeId> {
     }
 }
 
-/// The table of a reply with a value of an arm.
+/// The same of a reply with a value of an arm.
 fn tell_answer(
     bound: &Bound,
     op: u32,
     arm: u32,
     reply: &ReplyHead<'_>,
-    sheet: Sheet<'_>,
+    sheet: &mut Sheet<'_>,
     message: &[u8],
-) -> Result<Table, NoMemory>
-    ensures laid { IfOk result (λ t. laid 0 t.entries.items ≡ Some t.end) }
-    ensures within { IfOk result (λ t. t.end ≤ length message.now) }
-    ensures whole { IfOk result (λ t. t.stop ≡ None → t.end ≡ length message.now) }
-{
-    let alloc = sheet.alloc();
+) -> Result<Option<Stop>, NoMemory> {
     let Some(id) = arm_node(bound, op, arm) else {
-        return table_of(sheet, Some(op), None, message);
+        return Ok(None);
     };
-    let kinds = nodes_of_kinds(alloc)?;
-    let body = Body {
-        bound,
-        kinds: &kinds,
-        encoding: encoding_of(bound.back(), reply.head.order),
-        message,
+    let encoding = encoding_of(bound.back(), reply.head.order);
+    let body = Body::new(sheet.alloc(), bound, encoding, message)?;
+    let part = match arm {
+        0 => Part::Results,
+        _ => Part::Members,
     };
-    let stop = body.stop(alloc, id, reply.used)?;
-    let mut sheet = sheet.limited(limit_of(&stop, message));
-    let told = body.tell_outcome(&mut sheet, arm, id);
-    place_of(&sheet, told)?;
-    table_of(sheet, Some(op), stop, message)
+    body.tell_all(sheet, part, id, reply.used)
 }
 
 /// How the body of a reply is laid out.
@@ -201,19 +166,11 @@ fn encoding_of(back: Back, order: Order) -> Encoding {
 }
 
 impl Body<'_> {
-    /// The octets of an answer, or of the members of an exception.
-    fn tell_outcome(&self, sheet: &mut Sheet<'_>, arm: u32, id: NodeId) -> Result<(), Halt> {
-        if arm > 0 {
-            return self.tell(sheet, id, LEVELS, "members");
-        }
-        match self.bound.part(id) {
-            Some((Node::Group(ids), _)) => self.tell_results(sheet, ids),
-            _ => Err(sheet.fault()),
-        }
-    }
-
     /// The result, and the parameters that come out.
-    fn tell_results(&self, sheet: &mut Sheet<'_>, ids: &NodeIds) -> Result<(), Halt> {
+    pub(crate) fn tell_results(&self, sheet: &mut Sheet<'_>, id: NodeId) -> Result<(), Halt> {
+        let Some((Node::Group(ids), _)) = self.bound.part(id) else {
+            return Err(sheet.fault());
+        };
         for (i, id) in ids.as_slice().iter().enumerate() {
             let path = result_path(sheet.alloc(), i)?;
             self.tell(sheet, *id, LEVELS, path.as_str())?;

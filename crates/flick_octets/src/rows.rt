@@ -1,8 +1,9 @@
 //! Texts and rows of numbers in a body.
 
 use crate::body::{Body, tell_descriptor, tell_end, tell_padding};
+use crate::entry::What;
 use crate::layout::{after_row, width_of};
-use crate::sayings::{place_path, value_said, value_text};
+use crate::sayings::{place_path, said_of, value_text};
 use crate::scalars::element_of;
 use crate::sheet::{Halt, Sheet};
 use crate::texts::{digits, kind_word, owned, quoted, row_type, text_type};
@@ -32,7 +33,7 @@ impl Body<'_> {
             }
             Encoding::Mach => tell_described(sheet, Kind::Char, path)?,
         };
-        let said = value_said(alloc, path, text_type(alloc, count)?, value)?;
+        let said = said_of(alloc, What::Value, path, text_type(alloc, count)?, value)?;
         sheet.tell(n, said)?;
         match self.encoding {
             Encoding::CdrBig | Encoding::CdrLittle => tell_end(sheet, path),
@@ -58,7 +59,13 @@ impl Body<'_> {
         };
         match kind {
             Kind::Octet | Kind::Char => {
-                let said = value_said(alloc, path, row_type(alloc, kind, count)?, value)?;
+                let said = said_of(
+                    alloc,
+                    What::Value,
+                    path,
+                    row_type(alloc, kind, count)?,
+                    value,
+                )?;
                 sheet.tell(n.saturating_mul(width), said)?;
             }
             _ => self.tell_elements(sheet, kind, n, path)?,
@@ -113,13 +120,13 @@ impl Body<'_> {
         let alloc = sheet.alloc();
         let width = width_of(self.encoding, kind);
         let n = match sheet.rest().get(..width) {
-            Some(octets) => element_of(alloc, self.encoding, self.kinds, kind, octets)?,
+            Some(octets) => element_of(alloc, self.encoding, &self.kinds, kind, octets)?,
             None => None,
         };
         let inner = place_path(alloc, path, i)?;
         let of_type = owned(alloc, kind_word(kind))?;
         let value = value_text(alloc, kind, n)?;
-        let said = value_said(alloc, inner.as_str(), of_type, value)?;
+        let said = said_of(alloc, What::Value, inner.as_str(), of_type, value)?;
         sheet.tell(width, said)
     }
 

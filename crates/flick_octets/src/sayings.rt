@@ -7,25 +7,29 @@ use mint::kind::Kind;
 use pres::{FieldTable, Shape};
 use std::alloc::Global;
 
-/// What is said of a length.
-pub(crate) fn length_said(alloc: Global, path: &str, n: Option<i128>) -> Result<Said, NoMemory> {
-    Ok(Said {
-        what: What::Length,
-        path: owned(alloc, path)?,
-        of_type: owned(alloc, "u32")?,
-        value: value_text(alloc, Kind::U32, n)?,
-    })
+/// What a number in a body stands for.
+#[derive(Clone, Copy)]
+pub(crate) enum Sense<'a> {
+    /// For itself.
+    Number,
+    /// For an item of an enum of this shape.
+    Item(&'a Shape),
+    /// For a length.
+    Length,
+    /// For whether an optional value is there.
+    Presence,
 }
 
-/// What is said of a value.
-pub(crate) fn value_said(
+/// What is said of octets with a path.
+pub(crate) fn said_of(
     alloc: Global,
+    what: What,
     path: &str,
     of_type: String,
     value: String,
 ) -> Result<Said, NoMemory> {
     Ok(Said {
-        what: What::Value,
+        what,
         path: owned(alloc, path)?,
         of_type,
         value,
@@ -40,48 +44,37 @@ pub(crate) fn value_text(alloc: Global, kind: Kind, n: Option<i128>) -> Result<S
     }
 }
 
-/// An item of an enum as JSON, where it is read.
-pub(crate) fn item_said(
-    alloc: Global,
-    path: &str,
-    shape: &Shape,
-    n: Option<i128>,
-) -> Result<Said, NoMemory> {
-    let value = match n {
-        Some(n) => item_text(alloc, shape, n)?,
-        None => String::new(alloc),
-    };
-    value_said(alloc, path, owned(alloc, "enum")?, value)
-}
-
-/// A number of a kind, where it is read.
+/// What is said of a number of a kind, where it is read.
 pub(crate) fn number_said(
     alloc: Global,
     path: &str,
     kind: Kind,
+    sense: Sense<'_>,
     n: Option<i128>,
 ) -> Result<Said, NoMemory> {
-    let of_type = owned(alloc, kind_word(kind))?;
-    value_said(alloc, path, of_type, value_text(alloc, kind, n)?)
+    let (what, of_type) = match sense {
+        Sense::Number => (What::Value, kind_word(kind)),
+        Sense::Item(_) => (What::Value, "enum"),
+        Sense::Length => (What::Length, kind_word(kind)),
+        Sense::Presence => (What::Optional, ""),
+    };
+    let value = match (sense, n) {
+        (Sense::Item(shape), Some(n)) => item_text(alloc, shape, n)?,
+        _ => value_text(alloc, kind, n)?,
+    };
+    said_of(alloc, what, path, owned(alloc, of_type)?, value)
 }
 
-/// What is said of whether an optional value is there.
-pub(crate) fn presence_said(alloc: Global, path: &str, n: Option<i128>) -> Result<Said, NoMemory> {
-    Ok(Said {
-        what: What::Optional,
-        path: owned(alloc, path)?,
-        of_type: String::new(alloc),
-        value: value_text(alloc, Kind::Bool, n)?,
-    })
-}
-
-/// The path of a field.
+/// The path of a field, by its name, or by its place where the fields have no names.
 pub(crate) fn field_path(
     alloc: Global,
     path: &str,
-    names: &FieldTable,
+    names: Option<&FieldTable>,
     i: usize,
 ) -> Result<String, NoMemory> {
+    let Some(names) = names else {
+        return place_path(alloc, path, i);
+    };
     if i >= names.len() {
         return owned(alloc, path);
     }

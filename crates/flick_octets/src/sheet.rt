@@ -83,11 +83,9 @@ impl<'m> Sheet<'m> {
         }
     }
 
-    /// The same entries under another limit.
-    pub(crate) fn limited(self, limit: usize) -> Sheet<'m>
-        ensures { result ≡ self.entry }
-    {
-        Sheet { limit, ..self }
+    /// Sets another limit.
+    pub(crate) fn set_limit(&mut self, limit: usize) {
+        self.limit = limit;
     }
 
     /// The fault is at the next octet.

@@ -27,3 +27,19 @@ pub struct Stop {
     /// Where; beyond the end where the octets that align a number are cut off.
     pub at: usize,
 }
+
+impl Stop {
+    /// Something that is wrong at a place.
+    pub(crate) fn new(why: Why, at: usize) -> Stop {
+        Stop { why, at }
+    }
+
+    /// Octets of a message from a place on, where it should end.
+    pub(crate) fn trailing(at: usize, message: &[u8]) -> Option<Stop> {
+        if at < message.len() {
+            Some(Stop::new(Why::Trailing, at))
+        } else {
+            None
+        }
+    }
+}

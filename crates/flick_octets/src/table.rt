@@ -43,8 +43,8 @@ pub(crate) fn table_of(
     })
 }
 
-/// Where the table of a message ends.
-fn end_of(stop: &Option<Stop>, message: &[u8]) -> usize
+/// The place up to which the octets of a message are told.
+pub(crate) fn end_of(stop: &Option<Stop>, message: &[u8]) -> usize
     ensures within { result ≤ length message.now }
     ensures whole { stop.now ≡ None → result ≡ length message.now }
 {
@@ -60,9 +60,6 @@ pub(crate) fn table_of_long(alloc: Global, message: &[u8]) -> Result<Table, NoMe
     ensures within { IfOk result (λ t. t.end ≤ length message.now) }
     ensures whole { IfOk result (λ t. t.stop ≡ None → t.end ≡ length message.now) }
 {
-    let stop = Stop {
-        why: Why::Long,
-        at: 0,
-    };
-    table_of(Sheet::new(alloc, message, 0), None, Some(stop), message)
+    let stop = Some(Stop::new(Why::Long, 0));
+    table_of(Sheet::new(alloc, message, 0), None, stop, message)
 }

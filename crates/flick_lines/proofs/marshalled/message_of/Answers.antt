@@ -1,3 +1,4 @@
+use Rattle.flick_lines.specs.Counted.{call_counted, counted_in}
 use Rattle.flick_lines.specs.Marshalled.{call_digits, text_in}
 use Rattle.flick_lines.proofs.Options.{if-ok, on-ok}
 use Rattle.flick_lines.proofs.WithoutTrees.{usual-paid, usual-value}
@@ -13,3 +14,9 @@ pub returns-in-Some-clause-paid : goal.returns-in-Some-clause-paid
 returns-in-Some-clause-paid c =
     on-ok _ _ _ (usual-paid c.args.engine.now c.args.line.now c.in-Some.record
     (rw c.in-Some.is at c.in_ok-record.ensures.request) _ _) c.made_of.ensures.paid
+
+pub returns-in-Some-clause-counts : goal.returns-in-Some-clause-counts
+returns-in-Some-clause-counts c =
+    let engine = c.args.engine.now in
+    if-ok _ _ _ (λ o. usual-value (call_counted engine) engine.binding c.args.line.now c.in-Some.record
+    (rw c.in-Some.is at c.in_ok-record.ensures.request) (counted_in o c.made_of.new.buf)) c.made_of.ensures.counts

@@ -1,5 +1,6 @@
 use Rattle.serde_json.specs.View.{view}
 use Rattle.json_shape.specs.Requests.{request_of}
+use Rattle.flick_lines.specs.Counted.{call_counted, counted_in}
 use Rattle.flick_lines.specs.Marshalled.{call_digits, text_in}
 use Rattle.flick_lines.specs.Paid.{call_by_code}
 use Rattle.flick_lines.proofs.Options.{if-ok, on-ok}
@@ -34,3 +35,15 @@ returns-in_ok-refused-in-Err-clause-paid c =
     let b = c.args.engine.now.binding in
     paid-refused (call_by_code c.args.engine.now) request_of b c.bound.result.now (view c.args.json.now) c.in-Err.refusal
     c.bound.ensures.value c.in-Err.ensures.comes c.in_ok-refused-in-Err.ensures.memory _
+
+pub returns-in-Ok-clause-counts : goal.returns-in-Ok-clause-counts
+returns-in-Ok-clause-counts c =
+    if-ok _ _ _ (λ o. of-value (call_counted c.args.engine.now) _ c.in-Ok.record
+    (rw c.bound.ensures.value at c.in-Ok.ensures.comes) (counted_in o c.made_of.new.buf))
+    c.made_of.ensures.counts
+
+pub returns-in_ok-refused-in-Err-clause-counts : goal.returns-in_ok-refused-in-Err-clause-counts
+returns-in_ok-refused-in-Err-clause-counts c =
+    let e = c.args.engine.now in
+    refused-at request_of (call_counted e) e.binding c.bound.result.now (view c.args.json.now) c.in-Err.refusal
+    c.bound.ensures.value c.in-Err.ensures.comes c.in_ok-refused-in-Err.ensures.memory _ c.in_ok-refused-in-Err.ensures.reported

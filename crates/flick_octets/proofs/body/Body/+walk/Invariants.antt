@@ -7,9 +7,6 @@ decreases-tell l = l.levels + l.levels + l.levels + 2
 abbrev pub decreases-tell_fields : goal.decreases-tell_fields
 decreases-tell_fields l = l.levels + l.levels + l.levels + 1
 
-abbrev pub decreases-tell_places : goal.decreases-tell_places
-decreases-tell_places l = l.levels + l.levels + l.levels + 1
-
 abbrev pub decreases-tell_items : goal.decreases-tell_items
 decreases-tell_items l = l.levels + l.levels + l.levels + 1
 
