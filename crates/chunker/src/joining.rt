@@ -1,6 +1,6 @@
 //! Puts further on, and constants that stand behind one another as one.
 
-ghost use Rattle.std.specs.Prelude.{◌≡◌, ◌+◌, ◌++◌, List, [], map, OnOk, IfOk};
+ghost use Rattle.std.specs.Prelude.{◌≡◌, ◌≤◌, ◌+◌, ◌++◌, List, [], length, map, OnOk, IfOk};
 ghost use Rattle.cast_stub.specs.declared.put.Put.{Put};
 ghost use Rattle.chunker.specs.Chunked.{moved, zeros, with_const, consts_joined};
 ghost use Rattle.chunker.specs.Joins.{Joins};
@@ -92,6 +92,11 @@ fn put_const(alloc: Global, at: u32, octets: &Constant, out: &mut Puts) -> Resul
     Ok(())
 }
 
+/// Whether a put is a constant.
+fn is_const(put: &Put) -> bool {
+    matches!(put, Put::Const(_, _))
+}
+
 /// Puts that are joined so far, and a constant behind them that may go on.
 #[derive(Drop)]
 pub(crate) struct Joining {
@@ -132,12 +137,21 @@ fn join_put(alloc: Global, put: &Put, joining: &mut Joining) -> Result<(), NoMem
     }
 }
 
+/// How many puts are left of these where each constant goes on behind the one before it: at most one stands before and
+/// behind each other put.
+fn joined_len(puts: &Puts) -> usize
+    ensures { result ≤ length puts.now }
+{
+    let others = puts.as_slice().iter().filter(|put| !is_const(put)).count();
+    puts.len().min(others.saturating_mul(2).saturating_add(1))
+}
+
 /// The puts, of which constants that stand behind one another are one.
 pub(crate) fn join_puts(alloc: Global, puts: &Puts) -> Result<Puts, NoMemory>
     ensures { IfOk result (λ ps. ps ≡ consts_joined 0 [] puts.now) }
 {
     let mut joining = Joining {
-        out: Puts::new(alloc),
+        out: Puts::with_room(alloc, joined_len(puts))?,
         at: 0,
         octets: Constant::of(alloc, Octets::new(alloc)),
     };

@@ -16,6 +16,9 @@ use cast_stub::{Puts, SendCases, SendCode, SendOp, SendOps, SendSubs};
 use kit_base::NoMemory;
 use std::alloc::Global;
 
+/// The puts of an open chunk for which there is room from the start.
+const USUAL: usize = 8;
+
 /// The operations, from a place of the phase on.
 #[cycle(chunk)]
 fn chunk_ops(alloc: Global, ops: &SendOps, phase: Phase) -> Result<SendOps, NoMemory>
@@ -26,7 +29,7 @@ fn chunk_ops(alloc: Global, ops: &SendOps, phase: Phase) -> Result<SendOps, NoMe
         out: SendOps::new(alloc),
         phase,
         size: 0,
-        puts: Puts::new(alloc),
+        puts: Puts::with_room(alloc, USUAL)?,
     };
     for op in ops.as_slice() {
         put_op(alloc, op, &mut run)?;

@@ -45,7 +45,7 @@ pub(crate) fn close(alloc: Global, run: &mut Run) -> Result<(), NoMemory>
     let puts = join_puts(alloc, &run.puts)?;
     put_open(run.size, puts, &mut run.out)?;
     run.size = 0;
-    run.puts = Puts::new(alloc);
+    run.puts.clear();
     Ok(())
 }
 

@@ -28,7 +28,7 @@ fn in_order(alloc: Global, back: Vec<SendOp>) -> Result<SendOps, NoMemory>
     ensures { IfOk result (λ ops. ops ≡ reverse back.items) }
 {
     let mut rest = back;
-    let mut ops = SendOps::new(alloc);
+    let mut ops = SendOps::with_room(alloc, rest.len())?;
     while let Some(op) = rest.pop() {
         ops.push(op)?;
     }
