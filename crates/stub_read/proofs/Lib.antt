@@ -2,8 +2,6 @@
 
 -- * A loop over items reads what `repeat` reads
 pub mod Loops
--- * What leads a line, from tests of words one after the other
-pub mod Leading
 -- The words of a line are read as what they are printed from, by induction on digits and on lists
 pub mod Leaves
 -- The lines of puts are read as the puts that they are printed from, by induction on the puts

@@ -1,5 +1,5 @@
 -- The first words of lines.
-use Rattle.std.specs.Prelude.{None, codes}
+use Rattle.std.specs.Prelude.{ℕ, List, [], ◌∷◌, None, codes}
 use Rattle.stub_read.specs.declared.leads.Lead.{Lead}
 use Rattle.stub_read.specs.declared.leads.Lead.TheVariants as lead
 use Rattle.stub_read.specs.declared.leads.PutLead.{PutLead}
@@ -9,6 +9,11 @@ use Rattle.stub_read.specs.Reading.{Reader, led}
 -- what begins no line
 abbrev pub nothing : {A : Type 0} → Reader A
 nothing t = None
+
+-- what the first word of a table that begins octets stands for
+abbrev pub led_in : {A : Type 0} → List (List ℕ × A) → Reader A
+led_in [] t = None
+led_in (e ∷ table) t = led e.0 e.1 (led_in table) t
 
 -- the first word of an operation that is none of the first six
 unfoldable pub rest_lead_at : Reader Lead

@@ -1,7 +1,7 @@
 //! The first words of lines.
 
-ghost use Rattle.std.specs.Prelude.{◌≡◌, option_map};
-ghost use Rattle.stub_read.specs.Leads.{rest_lead_at, lead_at, put_lead_at};
+ghost use Rattle.std.specs.Prelude.{◌≡◌, ◌≤◌, drop, length, map, option_map};
+ghost use Rattle.stub_read.specs.Leads.{lead_at, led_in, put_lead_at};
 
 /// The form of an operation, which the first word of its line tells.
 #[derive(Clone, Copy, Drop)]
@@ -51,81 +51,65 @@ pub(crate) enum PutLead {
     Head,
 }
 
+/// The first words of operations.
+const OPERATIONS: [(&[u8], Lead); 12] = [
+    (b"ensure ", Lead::Ensure),
+    (b"ensure_row ", Lead::EnsureRow),
+    (b"align ", Lead::Align),
+    (b"chunk ", Lead::Chunk),
+    (b"row_copy ", Lead::RowCopy),
+    (b"row_swap ", Lead::RowSwap),
+    (b"row_wide ", Lead::RowWide),
+    (b"each ", Lead::Each),
+    (b"switch ", Lead::Switch),
+    (b"some ", Lead::There),
+    (b"call ", Lead::Call),
+    (b"patch ", Lead::Patch),
+];
+
+/// The words of puts.
+const PUTS: [(&[u8], PutLead); 7] = [
+    (b"num ", PutLead::Num),
+    (b"tag ", PutLead::Tag),
+    (b"flag ", PutLead::Flag),
+    (b"count ", PutLead::Count),
+    (b"short ", PutLead::Short),
+    (b"const ", PutLead::Const),
+    (b"head ", PutLead::Head),
+];
+
 /// The form of an operation, and what follows the first word of its line.
+#[tactic(auto, unfolding(crate::specs::Leads::rest_lead_at))]
 pub(crate) fn operation_lead(text: &[u8]) -> Option<(Lead, &[u8])>
     ensures { option_map (λ x. (x.0, x.1.now)) result ≡ lead_at text.now }
 {
-    if text.starts_with(b"ensure ") {
-        return Some((Lead::Ensure, &text[7..]));
-    }
-    if text.starts_with(b"ensure_row ") {
-        return Some((Lead::EnsureRow, &text[11..]));
-    }
-    if text.starts_with(b"align ") {
-        return Some((Lead::Align, &text[6..]));
-    }
-    if text.starts_with(b"chunk ") {
-        return Some((Lead::Chunk, &text[6..]));
-    }
-    if text.starts_with(b"row_copy ") {
-        return Some((Lead::RowCopy, &text[9..]));
-    }
-    if text.starts_with(b"row_swap ") {
-        return Some((Lead::RowSwap, &text[9..]));
-    }
-    rest_lead(text)
-}
-
-/// The same, where it is none of the first six forms.
-#[tactic(auto, unfolding(crate::specs::Leads::rest_lead_at))]
-fn rest_lead(text: &[u8]) -> Option<(Lead, &[u8])>
-    ensures { option_map (λ x. (x.0, x.1.now)) result ≡ rest_lead_at text.now }
-{
-    if text.starts_with(b"row_wide ") {
-        return Some((Lead::RowWide, &text[9..]));
-    }
-    if text.starts_with(b"each ") {
-        return Some((Lead::Each, &text[5..]));
-    }
-    if text.starts_with(b"switch ") {
-        return Some((Lead::Switch, &text[7..]));
-    }
-    if text.starts_with(b"some ") {
-        return Some((Lead::There, &text[5..]));
-    }
-    if text.starts_with(b"call ") {
-        return Some((Lead::Call, &text[5..]));
-    }
-    if text.starts_with(b"patch ") {
-        return Some((Lead::Patch, &text[6..]));
-    }
-    None
+    led_in(text, &OPERATIONS)
 }
 
 /// The form of a put, and what follows its word.
 pub(crate) fn put_lead(text: &[u8]) -> Option<(PutLead, &[u8])>
     ensures { option_map (λ x. (x.0, x.1.now)) result ≡ put_lead_at text.now }
 {
-    if text.starts_with(b"num ") {
-        return Some((PutLead::Num, &text[4..]));
-    }
-    if text.starts_with(b"tag ") {
-        return Some((PutLead::Tag, &text[4..]));
-    }
-    if text.starts_with(b"flag ") {
-        return Some((PutLead::Flag, &text[5..]));
-    }
-    if text.starts_with(b"count ") {
-        return Some((PutLead::Count, &text[6..]));
-    }
-    if text.starts_with(b"short ") {
-        return Some((PutLead::Short, &text[6..]));
-    }
-    if text.starts_with(b"const ") {
-        return Some((PutLead::Const, &text[6..]));
-    }
-    if text.starts_with(b"head ") {
-        return Some((PutLead::Head, &text[5..]));
+    led_in(text, &PUTS)
+}
+
+/// What the first word of a table that begins a text stands for, and what follows the word.
+fn led_in<'a, L: Copy>(text: &'a [u8], table: &[(&[u8], L)]) -> Option<(L, &'a [u8])>
+    ensures { option_map (λ x. (x.0, x.1.now)) result
+        ≡ led_in (map (λ e. (e.0.now, e.1)) table.now) text.now }
+{
+    for (word, lead) in table {
+        if text.starts_with(word) {
+            return Some((*lead, behind(word.len(), text)));
+        }
     }
     None
+}
+
+/// What follows so many octets.
+fn behind(n: usize, text: &[u8]) -> &[u8]
+    requires { n ≤ length text.now }
+    ensures { result.now ≡ drop n text.now }
+{
+    &text[n..]
 }
