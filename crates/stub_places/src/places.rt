@@ -27,10 +27,10 @@ fn node_of(mint: &Mint, spot: Spot) -> Option<&Node>
     }
 }
 
-fn field_spot(node: &Node, field: u32) -> Spot
-    ensures { result ≡ field_spot field (Some node.now) }
+fn field_at(mint: &Mint, spot: Spot, field: u32) -> Spot
+    ensures { result ≡ field_spot field (node_of mint.now spot) }
 {
-    match node {
+    match node_of(mint, spot)? {
         Node::Group(ids) => match ids.get(field as usize) {
             Some(child) => Some(*child),
             None => None,
@@ -46,15 +46,6 @@ fn field_spot(node: &Node, field: u32) -> Spot
     }
 }
 
-fn field_at(mint: &Mint, spot: Spot, field: u32) -> Spot
-    ensures { result ≡ field_spot field (node_of mint.now spot) }
-{
-    match node_of(mint, spot) {
-        Some(node) => field_spot(node, field),
-        None => None,
-    }
-}
-
 /// The place at a path.
 pub fn spot_at(mint: &Mint, path: &[u32], spot: Spot) -> Spot
     ensures { result ≡ spot_at mint.now path.now spot }
@@ -66,10 +57,11 @@ pub fn spot_at(mint: &Mint, path: &[u32], spot: Spot) -> Spot
     there
 }
 
-fn element(node: &Node) -> Spot
-    ensures { result ≡ element (Some node.now) }
+/// The place of an element.
+pub fn element_at(mint: &Mint, spot: Spot) -> Spot
+    ensures { result ≡ element (node_of mint.now spot) }
 {
-    match node {
+    match node_of(mint, spot)? {
         Node::Items(item, _) => Some(*item),
         Node::Void
         | Node::Num(_)
@@ -82,20 +74,11 @@ fn element(node: &Node) -> Spot
     }
 }
 
-/// The place of an element.
-pub fn element_at(mint: &Mint, spot: Spot) -> Spot
-    ensures { result ≡ element (node_of mint.now spot) }
+/// The place of the value that may be there.
+pub fn present_at(mint: &Mint, spot: Spot) -> Spot
+    ensures { result ≡ present (node_of mint.now spot) }
 {
-    match node_of(mint, spot) {
-        Some(node) => element(node),
-        None => None,
-    }
-}
-
-fn present(node: &Node) -> Spot
-    ensures { result ≡ present (Some node.now) }
-{
-    match node {
+    match node_of(mint, spot)? {
         Node::Maybe(item) => Some(*item),
         Node::Void
         | Node::Num(_)
@@ -108,20 +91,11 @@ fn present(node: &Node) -> Spot
     }
 }
 
-/// The place of the value that may be there.
-pub fn present_at(mint: &Mint, spot: Spot) -> Spot
-    ensures { result ≡ present (node_of mint.now spot) }
+/// The kind of the numbers of a row or text.
+pub fn row_kind_at(mint: &Mint, spot: Spot) -> Option<Kind>
+    ensures { result ≡ row_kind (node_of mint.now spot) }
 {
-    match node_of(mint, spot) {
-        Some(node) => present(node),
-        None => None,
-    }
-}
-
-fn row_kind(node: &Node) -> Option<Kind>
-    ensures { result ≡ row_kind (Some node.now) }
-{
-    match node {
+    match node_of(mint, spot)? {
         Node::Row(kind, _) => Some(*kind),
         Node::Text(_) => Some(Kind::Char),
         Node::Void
@@ -131,16 +105,6 @@ fn row_kind(node: &Node) -> Option<Kind>
         | Node::Items(_, _)
         | Node::Choice(_, _, _)
         | Node::Maybe(_) => None,
-    }
-}
-
-/// The kind of the numbers of a row or text.
-pub fn row_kind_at(mint: &Mint, spot: Spot) -> Option<Kind>
-    ensures { result ≡ row_kind (node_of mint.now spot) }
-{
-    match node_of(mint, spot) {
-        Some(node) => row_kind(node),
-        None => None,
     }
 }
 
@@ -199,10 +163,11 @@ fn most_of(count: Count) -> Option<u32>
     }
 }
 
-fn greatest(node: &Node) -> Option<u32>
-    ensures { result ≡ greatest (Some node.now) }
+/// The greatest length of a value there, if there is one.
+pub fn greatest_at(mint: &Mint, spot: Spot) -> Option<u32>
+    ensures { result ≡ greatest (node_of mint.now spot) }
 {
-    match node {
+    match node_of(mint, spot)? {
         Node::Row(_, count) | Node::Text(count) | Node::Items(_, count) => most_of(*count),
         Node::Void
         | Node::Num(_)
@@ -213,20 +178,11 @@ fn greatest(node: &Node) -> Option<u32>
     }
 }
 
-/// The greatest length of a value there, if there is one.
-pub fn greatest_at(mint: &Mint, spot: Spot) -> Option<u32>
-    ensures { result ≡ greatest (node_of mint.now spot) }
+/// The place of the arm of a number, or else of the default arm.
+pub fn arm_spot_at(mint: &Mint, spot: Spot, n: &i128) -> Spot
+    ensures { result ≡ arm_spot (node_of mint.now spot) n.now }
 {
-    match node_of(mint, spot) {
-        Some(node) => greatest(node),
-        None => None,
-    }
-}
-
-fn arm_spot(node: &Node, n: &i128) -> Spot
-    ensures { result ≡ arm_spot (Some node.now) n.now }
-{
-    match node {
+    match node_of(mint, spot)? {
         Node::Choice(_, arms, other) => arm_of(arms, *other, n),
         Node::Void
         | Node::Num(_)
@@ -236,16 +192,6 @@ fn arm_spot(node: &Node, n: &i128) -> Spot
         | Node::Group(_)
         | Node::Items(_, _)
         | Node::Maybe(_) => None,
-    }
-}
-
-/// The place of the arm of a number, or else of the default arm.
-pub fn arm_spot_at(mint: &Mint, spot: Spot, n: &i128) -> Spot
-    ensures { result ≡ arm_spot (node_of mint.now spot) n.now }
-{
-    match node_of(mint, spot) {
-        Some(node) => arm_spot(node, n),
-        None => None,
     }
 }
 
@@ -268,10 +214,12 @@ fn all_have(arms: &Arms, cases: &SendCases) -> bool
     true
 }
 
-fn rest_spot(node: &Node, cases: &SendCases) -> Spot
-    ensures { (last : Option (List Op)) → result ≡ rest_spot (Some node.now) (cases_seen cases.now last) }
+/// The place of the body of every other number.
+pub fn rest_spot_at(mint: &Mint, spot: Spot, cases: &SendCases) -> Spot
+    ensures { (last : Option (List Op))
+        → result ≡ rest_spot (node_of mint.now spot) (cases_seen cases.now last) }
 {
-    match node {
+    match node_of(mint, spot)? {
         Node::Choice(_, arms, other) => { if all_have(arms, cases) { *other } else { None } }
         Node::Void
         | Node::Num(_)
@@ -281,17 +229,6 @@ fn rest_spot(node: &Node, cases: &SendCases) -> Spot
         | Node::Group(_)
         | Node::Items(_, _)
         | Node::Maybe(_) => None,
-    }
-}
-
-/// The place of the body of every other number.
-pub fn rest_spot_at(mint: &Mint, spot: Spot, cases: &SendCases) -> Spot
-    ensures { (last : Option (List Op))
-        → result ≡ rest_spot (node_of mint.now spot) (cases_seen cases.now last) }
-{
-    match node_of(mint, spot) {
-        Some(node) => rest_spot(node, cases),
-        None => None,
     }
 }
 
