@@ -9,6 +9,23 @@ ghost use Rattle.stub_places.specs.Sets.{each_of, set_of};
 /// Which of the residues 0 to 7 are in a set.
 pub type Set = [bool; 8];
 
+/// The values of a function at the residues 0 to 7, before which it takes what is given.
+#[macro_export]
+macro_rules! at_each {
+    ($at:ident($($given:expr),*)) => {
+        [
+            $at($($given,)* 0),
+            $at($($given,)* 1),
+            $at($($given,)* 2),
+            $at($($given,)* 3),
+            $at($($given,)* 4),
+            $at($($given,)* 5),
+            $at($($given,)* 6),
+            $at($($given,)* 7),
+        ]
+    };
+}
+
 /// Whether both are true, without a branch.
 pub fn both(a: bool, b: bool) -> bool
     ensures { result ≡ (a && b) }
@@ -30,7 +47,7 @@ pub fn contains(set: &Set, r: usize) -> bool
     set[r]
 }
 
-fn is_at(r: usize, k: usize) -> bool
+fn is_at(k: usize, r: usize) -> bool
     ensures { result ≡ nat_eq r k }
 {
     r == k
@@ -40,16 +57,7 @@ fn is_at(r: usize, k: usize) -> bool
 pub fn only(k: usize) -> Set
     ensures { result ≡ each_of (only k) }
 {
-    [
-        is_at(0, k),
-        is_at(1, k),
-        is_at(2, k),
-        is_at(3, k),
-        is_at(4, k),
-        is_at(5, k),
-        is_at(6, k),
-        is_at(7, k),
-    ]
+    at_each!(is_at(k))
 }
 
 /// Every residue.
@@ -77,32 +85,14 @@ fn sum_at(a: &Set, b: &Set, r: usize) -> bool
 pub fn sum(a: &Set, b: &Set) -> Set
     ensures { result ≡ each_of (sum (set_of a.now) (set_of b.now)) }
 {
-    [
-        sum_at(a, b, 0),
-        sum_at(a, b, 1),
-        sum_at(a, b, 2),
-        sum_at(a, b, 3),
-        sum_at(a, b, 4),
-        sum_at(a, b, 5),
-        sum_at(a, b, 6),
-        sum_at(a, b, 7),
-    ]
+    at_each!(sum_at(a, b))
 }
 
 /// The same residues.
 pub fn copied(set: &Set) -> Set
     ensures { result ≡ each_of (set_of set.now) }
 {
-    [
-        contains(set, 0),
-        contains(set, 1),
-        contains(set, 2),
-        contains(set, 3),
-        contains(set, 4),
-        contains(set, 5),
-        contains(set, 6),
-        contains(set, 7),
-    ]
+    at_each!(contains(set))
 }
 
 /// The residue from which so many octets lead to another.
@@ -125,16 +115,7 @@ fn moved_at(n: u32, set: &Set, r: usize) -> bool
 pub fn moved(n: u32, set: &Set) -> Set
     ensures { result ≡ each_of (moved n (set_of set.now)) }
 {
-    [
-        moved_at(n, set, 0),
-        moved_at(n, set, 1),
-        moved_at(n, set, 2),
-        moved_at(n, set, 3),
-        moved_at(n, set, 4),
-        moved_at(n, set, 5),
-        moved_at(n, set, 6),
-        moved_at(n, set, 7),
-    ]
+    at_each!(moved_at(n, set))
 }
 
 /// How many octets lead to a multiple.
@@ -181,16 +162,7 @@ pub fn aligned(a: u32, set: &Set) -> Set
     requires { is_width a ≡ true }
     ensures { result ≡ each_of (aligned a (set_of set.now)) }
 {
-    [
-        aligned_at(a, set, 0),
-        aligned_at(a, set, 1),
-        aligned_at(a, set, 2),
-        aligned_at(a, set, 3),
-        aligned_at(a, set, 4),
-        aligned_at(a, set, 5),
-        aligned_at(a, set, 6),
-        aligned_at(a, set, 7),
-    ]
+    at_each!(aligned_at(a, set))
 }
 
 fn is_within_at(a: &Set, b: &Set, r: usize) -> bool
