@@ -7,6 +7,7 @@ ghost use Rattle.stub_cover.specs.Rooms.{lesser, least, no_rooms, only_room, on,
 ghost use Rattle.stub_rooms.specs.RoomsShown.{room_at, least_of, spread, joined};
 ghost use Rattle.stub_places.specs.Sets.{each_of, set_of};
 
+use stub_places::at_each;
 use stub_places::sets::{Set, before, both, contains, gap};
 
 /// A room for each residue, none where no way leads there.
@@ -44,16 +45,7 @@ fn least_at(a: &Rooms, b: &Rooms, r: usize) -> Option<u64>
 pub(crate) fn least(a: &Rooms, b: &Rooms) -> Rooms
     ensures { result ≡ each_of (least (room_at a.now) (room_at b.now)) }
 {
-    [
-        least_at(a, b, 0),
-        least_at(a, b, 1),
-        least_at(a, b, 2),
-        least_at(a, b, 3),
-        least_at(a, b, 4),
-        least_at(a, b, 5),
-        least_at(a, b, 6),
-        least_at(a, b, 7),
-    ]
+    at_each!(least_at(a, b))
 }
 
 /// No way to any residue.
@@ -73,16 +65,7 @@ fn only_at(n: usize, x: u64, r: usize) -> Option<u64>
 pub(crate) fn only_room(n: usize, x: u64) -> Rooms
     ensures { result ≡ each_of (only_room n x) }
 {
-    [
-        only_at(n, x, 0),
-        only_at(n, x, 1),
-        only_at(n, x, 2),
-        only_at(n, x, 3),
-        only_at(n, x, 4),
-        only_at(n, x, 5),
-        only_at(n, x, 6),
-        only_at(n, x, 7),
-    ]
+    at_each!(only_at(n, x))
 }
 
 fn spread_at(marks: &Set, x: Option<u64>, r: usize) -> Option<u64>
@@ -96,16 +79,7 @@ fn spread_at(marks: &Set, x: Option<u64>, r: usize) -> Option<u64>
 pub(crate) fn spread(marks: &Set, x: Option<u64>) -> Rooms
     ensures { result ≡ each_of (spread (set_of marks.now) x) }
 {
-    [
-        spread_at(marks, x, 0),
-        spread_at(marks, x, 1),
-        spread_at(marks, x, 2),
-        spread_at(marks, x, 3),
-        spread_at(marks, x, 4),
-        spread_at(marks, x, 5),
-        spread_at(marks, x, 6),
-        spread_at(marks, x, 7),
-    ]
+    at_each!(spread_at(marks, x))
 }
 
 /// No room at each residue of a set.
@@ -129,16 +103,7 @@ fn raised_at(n: u32, rooms: &Rooms, r: usize) -> Option<u64>
 pub(crate) fn raised(n: u32, rooms: &Rooms) -> Rooms
     ensures { result ≡ each_of (raised n (room_at rooms.now)) }
 {
-    [
-        raised_at(n, rooms, 0),
-        raised_at(n, rooms, 1),
-        raised_at(n, rooms, 2),
-        raised_at(n, rooms, 3),
-        raised_at(n, rooms, 4),
-        raised_at(n, rooms, 5),
-        raised_at(n, rooms, 6),
-        raised_at(n, rooms, 7),
-    ]
+    at_each!(raised_at(n, rooms))
 }
 
 fn set_at(n: u32, rooms: &Rooms, r: usize) -> Option<u64>
@@ -155,16 +120,7 @@ fn set_at(n: u32, rooms: &Rooms, r: usize) -> Option<u64>
 pub(crate) fn set(n: u32, rooms: &Rooms) -> Rooms
     ensures { result ≡ each_of (set n (room_at rooms.now)) }
 {
-    [
-        set_at(n, rooms, 0),
-        set_at(n, rooms, 1),
-        set_at(n, rooms, 2),
-        set_at(n, rooms, 3),
-        set_at(n, rooms, 4),
-        set_at(n, rooms, 5),
-        set_at(n, rooms, 6),
-        set_at(n, rooms, 7),
-    ]
+    at_each!(set_at(n, rooms))
 }
 
 /// Whether a room, if there is one, has so many octets.
@@ -202,16 +158,7 @@ fn took_at(n: u32, rooms: &Rooms, r: usize) -> Option<u64>
 fn lowered(n: u32, rooms: &Rooms) -> Rooms
     ensures { result ≡ each_of (λ r. option_map (λ x. x - n) (room_at rooms.now ((r + 8 - n % 8) % 8))) }
 {
-    [
-        took_at(n, rooms, 0),
-        took_at(n, rooms, 1),
-        took_at(n, rooms, 2),
-        took_at(n, rooms, 3),
-        took_at(n, rooms, 4),
-        took_at(n, rooms, 5),
-        took_at(n, rooms, 6),
-        took_at(n, rooms, 7),
-    ]
+    at_each!(took_at(n, rooms))
 }
 
 /// The rooms behind so many octets; none where a room is lacking.
