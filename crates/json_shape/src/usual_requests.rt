@@ -19,6 +19,9 @@ use kit_base::NoMemory;
 use pres::Bound;
 use std::alloc::Global;
 
+/// A request, or why none was read.
+type Asked = Result<RequestRec, Halt>;
+
 /// The request that a text presents as a record, where it is in the usual form; none says nothing of the text.
 /// The scratch has space for its strings and places: one is kept from line to line.
 pub fn direct_request(
@@ -40,22 +43,32 @@ pub fn direct_request(
 }
 
 /// The request that a text presents, with space for its strings and places.
-fn request_in(
-    alloc: Global,
-    bound: &Bound,
-    line: &str,
-    scratch: &mut Scratch,
-) -> Result<RequestRec, Halt>
+fn request_in(alloc: Global, bound: &Bound, line: &str, scratch: &mut Scratch) -> Asked
     ensures request { IfOk result (λ r. IsRequestIn bound.now line.now r) }
     ensures op { IfOk result (λ r. r.op < length bound.now.ops) }
     ensures typed { IfOk result (λ r. IfSome (slice_get bound.now.ops r.op)
         (λ op. IsWellTyped (type_at bound.now.nodes op.request) (seen r.value))) }
 {
+    let mut reader = Reader::new(line, scratch)?;
+    begin_members(&mut reader)?;
+    let record = in_order_of(alloc, bound, line, &mut reader)?;
+    end(&mut reader)?;
+    Ok(record)
+}
+
+/// The request of members, up to the end of the object. Their text begins with the arguments where these stand before
+/// the operation.
+fn in_order_of(alloc: Global, bound: &Bound, line: &str, reader: &mut Reader<'_>) -> Asked
+    ensures request { IfOk result (λ r. RequestTaken 126 bound.now reader.old reader.new r) }
+    ensures op { IfOk result (λ r. r.op < length bound.now.ops) }
+    ensures typed { IfOk result (λ r. IfSome (slice_get bound.now.ops r.op)
+        (λ op. IsWellTyped (type_at bound.now.nodes op.request) (seen r.value))) }
+{
     if !line.starts_with("{\"args\"") {
-        return op_first(alloc, bound, line, scratch);
+        return op_and_args(alloc, bound, reader);
     }
     match last_op(line.as_bytes()) {
-        Some(name) => args_first(alloc, bound, name, line, scratch),
+        Some(name) => args_and_op(alloc, bound, name, reader),
         None => Err(Halt::Fallback),
     }
 }
@@ -76,45 +89,6 @@ fn before_quote(octets: &[u8]) -> Option<&str> {
     str::from_utf8(&octets[..end]).ok()
 }
 
-/// The request whose arguments stand before its operation, which has this name.
-fn args_first(
-    alloc: Global,
-    bound: &Bound,
-    name: &str,
-    line: &str,
-    scratch: &mut Scratch,
-) -> Result<RequestRec, Halt>
-    ensures request { IfOk result (λ r. IsRequestIn bound.now line.now r) }
-    ensures op { IfOk result (λ r. r.op < length bound.now.ops) }
-    ensures typed { IfOk result (λ r. IfSome (slice_get bound.now.ops r.op)
-        (λ op. IsWellTyped (type_at bound.now.nodes op.request) (seen r.value))) }
-{
-    let mut reader = Reader::new(line, scratch)?;
-    begin_members(&mut reader)?;
-    let record = args_and_op(alloc, bound, name, &mut reader)?;
-    end(&mut reader)?;
-    Ok(record)
-}
-
-/// The request whose operation stands before its arguments.
-fn op_first(
-    alloc: Global,
-    bound: &Bound,
-    line: &str,
-    scratch: &mut Scratch,
-) -> Result<RequestRec, Halt>
-    ensures request { IfOk result (λ r. IsRequestIn bound.now line.now r) }
-    ensures op { IfOk result (λ r. r.op < length bound.now.ops) }
-    ensures typed { IfOk result (λ r. IfSome (slice_get bound.now.ops r.op)
-        (λ op. IsWellTyped (type_at bound.now.nodes op.request) (seen r.value))) }
-{
-    let mut reader = Reader::new(line, scratch)?;
-    begin_members(&mut reader)?;
-    let record = op_and_args(alloc, bound, &mut reader)?;
-    end(&mut reader)?;
-    Ok(record)
-}
-
 /// Looks that no token is left.
 fn end(reader: &mut Reader<'_>) -> Result<(), Unusual>
     ensures { OnOk result (reader.old ≡ []) }
@@ -126,7 +100,7 @@ fn end(reader: &mut Reader<'_>) -> Result<(), Unusual>
 }
 
 /// The request of members whose operation stands before the arguments, up to the end of the object.
-fn op_and_args(alloc: Global, bound: &Bound, reader: &mut Reader<'_>) -> Result<RequestRec, Halt>
+fn op_and_args(alloc: Global, bound: &Bound, reader: &mut Reader<'_>) -> Asked
     ensures request { IfOk result (λ r. RequestTaken 126 bound.now reader.old reader.new r) }
     ensures op { IfOk result (λ r. r.op < length bound.now.ops) }
     ensures typed { IfOk result (λ r. IfSome (slice_get bound.now.ops r.op)
@@ -136,33 +110,24 @@ fn op_and_args(alloc: Global, bound: &Bound, reader: &mut Reader<'_>) -> Result<
     let first = key_next(reader)?;
     let (before, op_key) = heads_at(back, first, reader)?;
     let name = op_at(op_key, reader)?;
-    let Some((number, operation)) = op_named(bound, name)? else {
+    let Some((op, operation)) = op_named(bound, name)? else {
         return Err(Halt::Fallback);
     };
     let next = key_next(reader)?;
     let (after, args_key) = heads_at(back, next, reader)?;
-    let head = head_in(bound, number, operation, &before, &after)?;
+    let head = head_in(bound, op, operation, &before, &after)?;
     let value = args_at(alloc, bound, operation.request, args_key, reader)?;
-    Ok(RequestRec {
-        op: number,
-        head,
-        value,
-    })
+    Ok(RequestRec { op, head, value })
 }
 
 /// The request of members whose arguments stand before the operation, which has this name, up to the end of the object.
-fn args_and_op(
-    alloc: Global,
-    bound: &Bound,
-    name: &str,
-    reader: &mut Reader<'_>,
-) -> Result<RequestRec, Halt>
+fn args_and_op(alloc: Global, bound: &Bound, name: &str, reader: &mut Reader<'_>) -> Asked
     ensures request { IfOk result (λ r. RequestTaken 126 bound.now reader.old reader.new r) }
     ensures op { IfOk result (λ r. r.op < length bound.now.ops) }
     ensures typed { IfOk result (λ r. IfSome (slice_get bound.now.ops r.op)
         (λ op. IsWellTyped (type_at bound.now.nodes op.request) (seen r.value))) }
 {
-    let Some((number, operation)) = op_named(bound, name)? else {
+    let Some((op, operation)) = op_named(bound, name)? else {
         return Err(Halt::Fallback);
     };
     after_key("args", reader)?;
@@ -173,15 +138,11 @@ fn args_and_op(
     name_at(name, op_key, reader)?;
     let next = key_next(reader)?;
     let (after, last) = heads_at(back, next, reader)?;
-    let head = head_in(bound, number, operation, &before, &after)?;
+    let head = head_in(bound, op, operation, &before, &after)?;
     if !is_end(last) {
         return Err(Halt::Fallback);
     }
-    Ok(RequestRec {
-        op: number,
-        head,
-        value,
-    })
+    Ok(RequestRec { op, head, value })
 }
 
 /// The name of the operation, where its key is the one that was taken.

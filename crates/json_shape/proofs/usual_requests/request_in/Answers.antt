@@ -1,5 +1,5 @@
 use Rattle.json_shape.proofs.UsualRecords.{line_request}
-use Rattle.json_shape.proofs.usual_requests.args_first.Goals as goal
+use Rattle.json_shape.proofs.usual_requests.request_in.Goals as goal
 
 pub returns-clause-request : goal.returns-clause-request
 returns-clause-request c =
