@@ -1,21 +1,49 @@
 -- What a message is as a reply, by what its body was read as.
-use Rattle.std.proofs.Common.{◌≡◌, ◌+◌, ◌<◌, ◌≤◌, ℕ, pos, List, Err, Ok, true, false, length, take, drop, refl, arith, inl, inr}
+use Rattle.std.proofs.Common.{◌≡◌, ◌∙◌, ap, sym, ◌+◌, ◌<◌, ◌≤◌, ℕ, pos, List, Err, Ok, true, false, length, take, drop, refl, arith, inl, inr}
 use Rattle.std.proofs.lemmas.List.{length-drop, length-take, take_all}
 use Rattle.mint.specs.Sound.{IsSound}
 use Rattle.mint.specs.Typed.{IsWellTyped}
 use Rattle.mint.specs.Values.{Val, arm}
+use Rattle.std.specs.Prelude.{Option, None, Some}
 use Rattle.wire_def.specs.declared.outcome.Refusal.{Refusal}
+use Rattle.wire_def.specs.declared.reply.Status.{Status}
+use Rattle.wire_def.specs.declared.reply.Status.TheVariants as status
 use Rattle.wire_def.proofs.Encodings.{are_light}
 use Rattle.plain_wire.specs.Answered.{FirstSpell}
 use Rattle.pres.specs.Bindings.{Binding}
 use Rattle.flick_engine.specs.declared.errors.MessageErr.TheVariants as err
+use Rattle.flick_engine.specs.declared.replies.Fate.{Fate}
 use Rattle.flick_engine.specs.declared.replies.Fate.TheVariants.{Arm, Refused}
-use Rattle.flick_engine.specs.Fates.{Heard, is_followed}
+use Rattle.flick_engine.specs.Fates.{Heard, copies_id, fate_of, is_followed, raised_at, takes_memory}
 use Rattle.flick_engine.specs.Replies.{IsChoice, HasArm, reply_type, arm_type, arm_type_in}
 use Rattle.flick_engine.specs.RepliesReceived.{answered, refused, Says, IsExactlyReply}
 use Rattle.flick_engine.proofs.Arming.{arm_reply, some_type}
 use Rattle.flick_engine.proofs.DecidingReplies.{exactly_reply}
 use Rattle.flick_engine.proofs.RepliesOfBacks.{one_reply}
+
+-- a user exception takes memory, whether it is one of the operation's or not
+raised_takes : (id : List ℕ) (n : Option ℕ) → takes_memory (raised_at id n) ≡ true
+raised_takes id None = refl
+raised_takes id (Some k) = refl
+
+-- so does the value of an arm
+pub arm_takes : (f g : Fate) (k : ℕ) → f ≡ g → f ≡ Arm k → takes_memory g ≡ true
+arm_takes f g k is told = ap takes_memory (sym is ∙ told)
+
+-- where an id is kept, memory is taken
+pub kept_id : (ids : List (List ℕ)) (s : Status) → copies_id ids s ≡ true → takes_memory (fate_of ids s) ≡ true
+kept_id ids status.Answer e = refl
+kept_id ids (status.User id) e = raised_takes id.now _
+kept_id ids (status.Raised k) e = refl
+kept_id ids status.ProgUnavail e = absurd (cc e)
+kept_id ids (status.ProgMismatch low high) e = absurd (cc e)
+kept_id ids status.ProcUnavail e = absurd (cc e)
+kept_id ids status.GarbageArgs e = absurd (cc e)
+kept_id ids status.SystemErr e = absurd (cc e)
+kept_id ids (status.RpcMismatch low high) e = absurd (cc e)
+kept_id ids (status.AuthError why) e = absurd (cc e)
+kept_id ids (status.System id minor completion) e = refl
+kept_id ids (status.RetCode code) e = absurd (cc e)
 
 module _ (b : Binding) (op : ℕ) (o : List ℕ) (t : Heard) where
   -- octets follow a refusal that nothing may follow

@@ -1,6 +1,6 @@
 -- The arms of what comes back from an operation, by induction on the arms.
 use Rattle.std.proofs.Common.{◌≡◌, ◌≢◌, ◌+◌, ◌<◌, ◌≤◌, ℕ, suc, ℤ, pos, negsuc, Bool, true, false, List, [], ◌∷◌, length, Option, Some, None, refl, sym, ap, ◌∙◌, subst, int_eq, cond, arith}
-use Rattle.std.specs.Prelude.{is_some, IsTrue, unwrap_or, MatchBool, Result, Err}
+use Rattle.std.specs.Prelude.{is_some, IsTrue, unwrap_or, MatchBool, Result, Ok, Err, OnErr, OnOk}
 use Rattle.std.proofs.lemmas.Bool.{ltb-true, lt-ltb}
 use Rattle.std.proofs.lemmas.Bool.Decides.{Decides-int_eq}
 use Rattle.mint.specs.declared.kind.Kind.TheVariants as kind
@@ -19,18 +19,40 @@ use Rattle.wire_def.specs.declared.head.Head.{Head}
 use Rattle.flick_engine.specs.declared.errors.MarshalErr.{MarshalErr}
 use Rattle.flick_engine.specs.declared.errors.MarshalErr.TheVariants as marshal
 use Rattle.flick_engine.specs.Costs.{IsCoveredAnswer, IsSparingAnswer}
-use Rattle.flick_engine.specs.Messages.{refusal_of}
+use Rattle.flick_engine.specs.Messages.{ended}
 use Rattle.flick_engine.specs.Replies.{IsChoice, arm_type_in}
 
 -- ---- a message is too long where its code is
 
-abbrev no_message : MarshalErr → Result (Unit {0}) MarshalErr
-no_message m = Err m
+ok_still : (r : Result (Unit {0}) SendErr) (P : Type 0) → OnOk r P → OnOk (ended r) P
+ok_still (Ok x) P h = h
+ok_still (Err why) P h = tt
 
-pub long_stop : (r : Result (Unit {0}) SendErr) (w : SendErr) (m : MarshalErr) → r ≡ Err w → m ≡ refusal_of w
-    → no_message m ≡ no_message marshal.Long → r ≡ Err send.Long
-long_stop r send.Long m is same e = is
-long_stop r send.NoMemory m is same e = absurd cc
+err_still : (r : Result (Unit {0}) SendErr) (P : Type 0) → OnErr r P → OnErr (ended r) P
+err_still (Ok x) P h = tt
+err_still (Err why) P h = h
+
+both_ok : (r : Result (Unit {0}) SendErr) (P Q : Type 0) → OnOk r P → OnOk r Q → OnOk r (P × Q)
+both_ok (Ok x) P Q p q = (p, q)
+both_ok (Err why) P Q p q = tt
+
+long_still : (r : Result (Unit {0}) SendErr) → ended r ≡ Err marshal.Long → r ≡ Err send.Long
+long_still (Ok x) e = absurd (cc e)
+long_still (Err send.Long) e = refl
+long_still (Err send.NoMemory) e = absurd (cc e)
+
+module _ (r : Result (Unit {0}) SendErr) (q : Result (Unit {0}) MarshalErr) (is : q ≡ ended r) where
+  pub ok_so : (P : Type 0) → OnOk r P → OnOk q P
+  ok_so P h = subst (λ (z : Result (Unit {0}) MarshalErr). OnOk z P) (sym is) (ok_still r P h)
+
+  pub both_so : (P Q : Type 0) → OnOk r P → OnOk r Q → OnOk q (P × Q)
+  both_so P Q a b = ok_so (P × Q) (both_ok r P Q a b)
+
+  pub err_so : (P : Type 0) → OnErr r P → OnErr q P
+  err_so P h = subst (λ (z : Result (Unit {0}) MarshalErr). OnErr z P) (sym is) (err_still r P h)
+
+  pub long_so : q ≡ Err marshal.Long → r ≡ Err send.Long
+  long_so e = long_still r (sym is ∙ e)
 
 -- ---- the type of an arm
 

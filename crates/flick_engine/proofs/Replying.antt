@@ -1,7 +1,8 @@
 -- How messages are answered, by what the parts of the code answer.
 use Rattle.std.proofs.Common.{◌≡◌, inl, inr, ℕ, zero, suc, ◌<◌, List, [], ◌∷◌, Bool, true, false, Some, None, length, map, refl, sym, ap, ◌∙◌, subst}
-use Rattle.std.specs.Prelude.{MatchBool, Option, Result, Ok, Err, IfOk, OnOk, slice_get, slice_index_or, if◌then◌else◌}
+use Rattle.std.specs.Prelude.{MatchBool, Option, Result, Ok, Err, IfOk, OnErr, OnOk, slice_get, slice_index_or, if◌then◌else◌}
 use Rattle.std.proofs.lemmas.Result.{IfOk-weaker}
+use Rattle.demux.specs.Names.{first_word}
 use Rattle.kit_base.specs.Limits.{longest_message}
 use Rattle.mint.specs.Values.{Val}
 use Rattle.wire_def.specs.declared.encoding.Back.{Back}
@@ -14,7 +15,9 @@ use Rattle.head_kit.specs.declared.call_head.CallHead.{CallHead}
 use Rattle.pres.specs.declared.ops.Op.{Op}
 use Rattle.pres.specs.Bindings.{Binding}
 use Rattle.giop_head.specs.Header.{IsMinor}
-use Rattle.giop_head.specs.Printed.{header_octets}
+use Rattle.giop_head.specs.Printed.{addressing_octets, header_octets}
+use Rattle.raw_buf.specs.Words.{words}
+use Rattle.back_xdr.specs.Refusals.{denied_for}
 use Rattle.back_mach.specs.declared.call.MachCall.{MachCall}
 use Rattle.back_mach.specs.Refusals as mach
 use Rattle.back_mach.specs.Reported.{BeginsCall}
@@ -24,9 +27,9 @@ use Rattle.flick_engine.specs.declared.requests.Request.{Request}
 use Rattle.flick_engine.specs.declared.serve.Served.{Served}
 use Rattle.flick_engine.specs.Backs.{IsMinorOver, Begins, Stops}
 use Rattle.flick_engine.specs.Received.{Answers, IsShort, ReadCall, asked}
-use Rattle.flick_engine.specs.Refusals.{reply_head, long_reply, RefusesOver, is_passed_over, giop_answer, AnswersFault}
+use Rattle.flick_engine.specs.Refusals.{reply_head, long_reply, RefusesOver, addressing_answer, is_passed_over, is_version, giop_answer, AnswersFault}
 use Rattle.flick_engine.specs.Replies.{reply_message}
-use Rattle.flick_engine.specs.Serving.{reply_in, is_answered, RefusesCall, AnswersAs, AnswersCall, ServesCall, Serves}
+use Rattle.flick_engine.specs.Serving.{reply_in, is_answered, IsDue, RefusesCall, AnswersAs, AnswersCall, ServesCall, Serves}
 
 -- ---- results
 
@@ -38,6 +41,23 @@ any_ok (Err e) P h = tt
 pub both_ok : {A E : Type 0} (r : Result A E) (P Q R : Type 0) → (P → Q → R) → OnOk r P → OnOk r Q → OnOk r R
 both_ok (Ok x) P Q R f p q = f p q
 both_ok (Err e) P Q R f p q = tt
+
+one_err : {A E : Type 0} (x : Result A E) (d e : E) → x ≡ Err d → x ≡ Err e → d ≡ e
+one_err x d e here there = let both = sym here ∙ there in cc
+
+pub any_err : {A E : Type 0} (r : Result A E) (P : Type 0) → P → OnErr r P
+any_err (Ok x) P h = tt
+any_err (Err e) P h = h
+
+pub weaker_err : {A E : Type 0} (r : Result A E) (P Q : Type 0) → (P → Q) → OnErr r P → OnErr r Q
+weaker_err (Ok x) P Q f h = tt
+weaker_err (Err e) P Q f h = f h
+
+-- what did not end so did not end so elsewhere
+pub other_err : {A B E : Type 0} (r : Result B E) (x : Result A E) (d e : E) → r ≡ Err d → (r ≡ Err e → ⊥) → x ≡ Err d → x ≡ Err e → ⊥
+other_err r x d e is not here there =
+    let same : d ≡ e = one_err x d e here there in
+    not (is ∙ ap (λ z. Err z) same)
 
 -- ---- what a message is, that was not read as a request
 
@@ -102,6 +122,17 @@ module _ (b : Binding) (m : ℕ) (work : ℕ → Val → Val → Type 0) (o : Li
   too_long (Ok u) head q w x does long refuses = (w, does, inr (long, refuses))
   too_long (Err n) head q w x does long refuses = tt
 
+-- a call that is answered, and a fault that is
+pub call_due : {A E : Type 0} (r : Result A E) (b : Binding) (m : ℕ) (o : List ℕ) (c : CallHead) → IsShort o → Begins b o c
+    → OnErr r (is_answered b c ≡ true) → OnErr r (IsDue b m o)
+call_due r b m o c short begins h =
+    weaker_err r (is_answered b c ≡ true) (IsDue b m o) (λ is. (short, inl (c, begins, is))) h
+
+pub fault_due : {A E : Type 0} (r : Result A E) (b : Binding) (m : ℕ) (o : List ℕ) (e : HeadErr) → IsShort o → Stops b.back o e
+    → OnErr r ((x : List ℕ) × AnswersFault b.back m b o e (Some x)) → OnErr r (IsDue b m o)
+fault_due r b m o e short stops h =
+    weaker_err r ((x : List ℕ) × AnswersFault b.back m b o e (Some x)) (IsDue b m o) (λ due. (short, inr (e, stops, due))) h
+
 -- ---- messages that are not requests
 
 module _ (m : ℕ) (r : Order) (o : List ℕ) (e : HeadErr) (t : Bool) (is : t ≡ is_passed_over o e) where
@@ -112,6 +143,23 @@ module _ (m : ℕ) (r : Order) (o : List ℕ) (e : HeadErr) (t : Bool) (is : t �
   reported_wrong d shown same =
       subst
       (λ (z : Bool). Some d ≡ (if z then None else Some (header_octets m r 6))) (sym (sym is ∙ shown)) (ap (λ (x : List ℕ). Some x) same)
+
+-- a request by another name that wants a reply is answered
+pub addressing_due : (r : Order) (h : Head) → h.wants ≡ true → (x : List ℕ) × (Some x ≡ addressing_answer r h)
+addressing_due r h wants =
+    let x = addressing_octets r h.id in
+    (x, subst (λ (z : Bool). Some x ≡ (if z then Some x else None)) (sym wants) refl)
+
+-- over ONC another version of the protocol is
+pub onc_due : {A E : Type 0} (r : Result A E) (b : Binding) (m : ℕ) (o : List ℕ) (e : HeadErr) → b.back ≡ back.Xdr
+    → OnErr r (is_version e ≡ true) → OnErr r ((x : List ℕ) × AnswersFault b.back m b o e (Some x))
+onc_due (Ok s) b m o e is h = tt
+onc_due (Err n) b m o e is h =
+    let x = words (first_word o ∷ denied_for (0 ∷ 2 ∷ 2 ∷ [])) in (
+      x,
+      subst (λ (k : Back). AnswersFault k m b o e (Some x)) (sym is)
+          (subst (λ (z : Bool). Some x ≡ (if z then Some x else None)) (sym h) refl),
+    )
 
 -- ---- replies that refuse
 

@@ -60,6 +60,13 @@ giop_fate ids giop.answer = Arm 0
 giop_fate ids (giop.user id) = raised ids id
 giop_fate ids (giop.system id minor completion) = Refused (refusal.SystemException id minor completion)
 
+-- a reply that fared so takes memory to read: the value of an arm, or the id of an exception, which is kept
+abbrev pub takes_memory : Fate → Bool
+takes_memory (Arm k) = true
+takes_memory (Refused (refusal.UserException id)) = true
+takes_memory (Refused (refusal.SystemException id minor completion)) = true
+takes_memory (Refused _) = false
+
 -- octets of a message follow a refusal, of a head of so many octets, that nothing may follow
 abbrev pub is_followed : Refusal → ℕ → List ℕ → Bool
 is_followed why used o = is_alone why && nat_lt used (length o)

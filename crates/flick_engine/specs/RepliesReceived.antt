@@ -18,7 +18,7 @@ use Rattle.flick_engine.specs.declared.replies.Fate.{Fate}
 use Rattle.flick_engine.specs.declared.replies.Fate.TheVariants.{Arm, Refused}
 use Rattle.flick_engine.specs.declared.replies.Reply.{Reply}
 use Rattle.flick_engine.specs.Backs.{BeginsReply, ReplyStops}
-use Rattle.flick_engine.specs.Fates.{Heard, is_followed}
+use Rattle.flick_engine.specs.Fates.{Heard, is_followed, takes_memory}
 use Rattle.flick_engine.specs.Received.{IsShort}
 use Rattle.flick_engine.specs.Replies.{arm_type}
 
@@ -43,6 +43,10 @@ Answers b op o After = (t : Heard) × (k : ℕ) × Says b op o t (Arm k) × Afte
 -- they begin with the head of a reply that refuses, and it ends so
 abbrev pub Refuses : Binding → ℕ → List ℕ → (Heard → Refusal → Type 0) → Type 0
 Refuses b op o Ends = (t : Heard) × (why : Refusal) × Says b op o t (Refused why) × Ends t why
+
+-- they begin with the head of a reply that takes memory to read
+abbrev pub TakesMemory : Binding → ℕ → List ℕ → Type 0
+TakesMemory b op o = (t : Heard) × IsShort o × BeginsReply b op o t × (takes_memory t.fate ≡ true)
 
 -- the octets after the head are the spelling of a value of the arm
 abbrev pub IsAnswer : Binding → ℕ → List ℕ → Val → Heard → ℕ → Type 0

@@ -85,6 +85,12 @@ Serves b m work o x =
     ⊎ (IsShort o × (e : HeadErr) × Stops b.back o e × AnswersFault b.back m b o e x)
     ⊎ (IsShort o × (c : CallHead) × Begins b o c × ServesCall b work o c x)
 
+-- a message that is not too long is answered: it begins with the head of a call that is, or stops with a fault that is
+abbrev pub IsDue : Binding → ℕ → List ℕ → Type 0
+IsDue b m o = IsShort o
+    × (((c : CallHead) × Begins b o c × (is_answered b c ≡ true))
+    ⊎ ((e : HeadErr) × Stops b.back o e × ((x : List ℕ) × AnswersFault b.back m b o e (Some x))))
+
 -- ---- what it costs a buffer
 
 -- where the message of a reply is not too long, the buffer's counts are exactly those of a run of the code of its arm in a version

@@ -3,7 +3,7 @@
 ghost use Rattle.std.specs.Prelude.{◌≡◌};
 ghost use Rattle.flick_engine.specs.declared.errors.MarshalErr.TheVariants.{NoMemory as NoMessage};
 ghost use Rattle.flick_engine.specs.declared.errors.MessageErr.TheVariants.{NoMemory as NoRequest};
-ghost use Rattle.flick_engine.specs.Messages.{refusal_of};
+ghost use Rattle.flick_engine.specs.Messages.{ended, refusal_of};
 
 use kit_base::NoMemory;
 use stub_machine::SendErr;
@@ -27,12 +27,22 @@ impl From<NoMemory> for MarshalErr {
 }
 
 /// Why there is no message, by what ended its code.
-pub(crate) fn refusal_of(why: SendErr) -> MarshalErr
+fn refusal_of(why: SendErr) -> MarshalErr
     ensures { result ≡ refusal_of why }
 {
     match why {
         SendErr::Long => MarshalErr::Long,
         SendErr::NoMemory => MarshalErr::NoMemory,
+    }
+}
+
+/// What came of a message, by how its code ended.
+pub(crate) fn ended(ran: Result<(), SendErr>) -> Result<(), MarshalErr>
+    ensures { result ≡ ended ran }
+{
+    match ran {
+        Ok(()) => Ok(()),
+        Err(why) => Err(refusal_of(why)),
     }
 }
 

@@ -1,6 +1,6 @@
 //! Messages that are not calls, and calls that want no reply.
 
-ghost use Rattle.std.specs.Prelude.{◌≡◌, [], Ok, map, true, IfOk, OnErr};
+ghost use Rattle.std.specs.Prelude.{◌≡◌, ℕ, List, [], Ok, Some, map, true, IfOk, OnErr};
 ghost use Rattle.std.specs.List.{list_any};
 ghost use Rattle.std.specs.Str.{bytes_eq};
 ghost use Rattle.aoi.specs.Plain.{PlainInterface, plain_interface};
@@ -192,6 +192,8 @@ impl Engine {
         ensures serves { IfOk result (λ s.
             AnswersOther self.now.minor order self.now.binding message.now (reply_in s buf.new.done)) }
         ensures silent { (result ≡ Ok Served.Silent) → buf.new.done ≡ [] }
+        ensures memory { OnErr result ((x : List ℕ)
+            × AnswersOther self.now.minor order self.now.binding message.now (Some x)) }
         ensures spent { NoneFell buf.old.spent buf.new.spent }
     {
         match giop_head::read_call(message) {
@@ -224,6 +226,8 @@ impl Engine {
             AnswersFault self.now.binding.back self.now.minor self.now.binding message.now fault
             (reply_in s buf.new.done)) }
         ensures silent { (result ≡ Ok Served.Silent) → buf.new.done ≡ [] }
+        ensures memory { OnErr result ((x : List ℕ)
+            × AnswersFault self.now.binding.back self.now.minor self.now.binding message.now fault (Some x)) }
         ensures spent { NoneFell buf.old.spent buf.new.spent }
     {
         match self.bound().back() {

@@ -10,7 +10,7 @@ ghost use Rattle.flick_engine.specs.Costs.{IsSentByCode};
 ghost use Rattle.flick_engine.specs.Messages.{request_type, message};
 
 use crate::engine::Engine;
-use crate::errors::{MarshalErr, refusal_of};
+use crate::errors::{MarshalErr, ended};
 use mint::value::Value;
 use raw_buf::SendBuf;
 use wire_def::Head;
@@ -46,9 +46,6 @@ impl Engine {
         ensures err { OnErr result (buf.new.done ≡ []) }
         ensures spent { NoneFell buf.old.spent buf.new.spent }
     {
-        match self.stubs().send(op, head, value, buf) {
-            Ok(()) => Ok(()),
-            Err(why) => Err(refusal_of(why)),
-        }
+        ended(self.stubs().send(op, head, value, buf))
     }
 }

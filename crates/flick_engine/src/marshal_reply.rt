@@ -13,7 +13,7 @@ ghost use Rattle.flick_engine.specs.Received.{IsShort};
 ghost use Rattle.flick_engine.specs.Replies.{HasArm, arm_type, reply_type, reply_message};
 
 use crate::engine::Engine;
-use crate::errors::{MarshalErr, refusal_of};
+use crate::errors::{MarshalErr, ended};
 use mint::value::Value;
 use raw_buf::SendBuf;
 use wire_def::Head;
@@ -83,10 +83,7 @@ impl Engine {
         ensures spent { NoneFell buf.old.spent buf.new.spent }
     {
         let (arm, inner) = self.reply_arm(op, value);
-        match self.stubs().reply(op, arm, minor, head, inner, buf) {
-            Ok(()) => Ok(()),
-            Err(why) => Err(refusal_of(why)),
-        }
+        ended(self.stubs().reply(op, arm, minor, head, inner, buf))
     }
 
     /// The arm that the value of a reply is of, and the value in it.

@@ -1,6 +1,6 @@
 //! Calls that are refused.
 
-ghost use Rattle.std.specs.Prelude.{◌≡◌, [], Err, Some, map, IfOk, OnErr, OnOk};
+ghost use Rattle.std.specs.Prelude.{◌≡◌, ◌≢◌, [], Err, Some, map, IfOk, OnErr, OnOk};
 ghost use Rattle.aoi.specs.Plain.{plain_interface};
 ghost use Rattle.raw_buf.specs.Buf.{NoneFell};
 ghost use Rattle.back_cdr.specs.Targets as targets;
@@ -193,6 +193,7 @@ impl Engine {
         ensures value { IfOk result (λ why. IsRefused self.now.binding message.now fault why) }
         ensures own { IfOk result (λ why. IsOwnOver self.now.binding.back why) }
         ensures there { IfOk result (λ why. ReadCall self.now.binding message.now (Err fault)) }
+        ensures memory { OnErr result (fault ≢ MessageErr.NoMemory → IsCdr self.now.binding.back) }
     {
         match fault {
             MessageErr::NoInterface => self.no_interface(alloc, called, message),

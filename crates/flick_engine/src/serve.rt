@@ -1,6 +1,6 @@
 //! Messages that are answered.
 
-ghost use Rattle.std.specs.Prelude.{◌≡◌, ◌<◌, [], Ok, Some, false, length, IfOk, OnErr, OnOk};
+ghost use Rattle.std.specs.Prelude.{◌≡◌, ◌<◌, [], Ok, Some, false, true, length, IfOk, OnErr, OnOk};
 ghost use Rattle.kit_base.specs.Limits.{longest_message};
 ghost use Rattle.mint.specs.Typed.{IsWellTyped};
 ghost use Rattle.mint.specs.Values.{seen};
@@ -13,7 +13,7 @@ ghost use Rattle.flick_engine.specs.Received.{IsShort, asked};
 ghost use Rattle.flick_engine.specs.Refusals as refusals;
 ghost use Rattle.flick_engine.specs.Refusals.{reply_head};
 ghost use Rattle.flick_engine.specs.Serving as serving;
-ghost use Rattle.flick_engine.specs.Serving.{Serves, ServesByCode, ServesCall, AnswersCall, AnswersCallByCode, AnswersAs, AnswersByCode, reply_in};
+ghost use Rattle.flick_engine.specs.Serving.{IsDue, Serves, ServesByCode, ServesCall, AnswersCall, AnswersCallByCode, AnswersAs, AnswersByCode, reply_in};
 
 use crate::engine::Engine;
 use crate::errors::{MarshalErr, MessageErr};
@@ -55,6 +55,7 @@ impl Engine {
             (reply_in s buf.new.done)) }
         ensures silent { (result ≡ Ok Served.Silent) → buf.new.done ≡ [] }
         ensures long { longest_message < length view.old.octets → result ≡ Ok Served.Silent }
+        ensures memory { OnErr result (IsDue self.now.binding self.now.minor view.old.octets) }
         ensures err { OnErr result (buf.new.done ≡ []) }
         // What it costs.
         ensures cost { IfOk result (λ s. ServesByCode self.now (S.Answers skeleton.now)
@@ -94,6 +95,7 @@ impl Engine {
             (reply_in s buf.new.done)) }
         ensures silent { (result ≡ Ok Served.Silent) → buf.new.done ≡ [] }
         ensures long { longest_message < length message.now → result ≡ Ok Served.Silent }
+        ensures memory { OnErr result (IsDue self.now.binding self.now.minor message.now) }
         ensures cost { IfOk result (λ s. ServesByCode self.now (S.Answers skeleton.now)
             message.now (reply_in s buf.new.done) buf.old.spent buf.new) }
         ensures spent { NoneFell buf.old.spent buf.new.spent }
@@ -135,6 +137,7 @@ impl Engine {
             (reply_in s buf.new.done)) }
         ensures silent { (result ≡ Ok Served.Silent) → buf.new.done ≡ [] }
         ensures passed { serving.is_answered self.now.binding called.now ≡ false → result ≡ Ok Served.Silent }
+        ensures memory { OnErr result (serving.is_answered self.now.binding called.now ≡ true) }
         ensures cost { IfOk result (λ s. ServesByCode self.now (S.Answers skeleton.now)
             message.now (reply_in s buf.new.done) buf.old.spent buf.new) }
         ensures spent { NoneFell buf.old.spent buf.new.spent }

@@ -8,7 +8,7 @@ ghost use Rattle.wire_def.specs.Stops.{Stops};
 ghost use Rattle.plain_wire.specs.Answered.{IsValue, IsStop, FirstSpell};
 ghost use Rattle.flick_engine.specs.Costs.{after_head, IsReadByCode};
 ghost use Rattle.flick_engine.specs.Messages.{request_type};
-ghost use Rattle.flick_engine.specs.Received.{Answers, IsExactly, Names};
+ghost use Rattle.flick_engine.specs.Received.{Answers, CallsOperation, IsExactly, Names};
 
 use crate::engine::Engine;
 use crate::errors::MessageErr;
@@ -26,6 +26,8 @@ impl Engine {
     pub fn unmarshal(&self, alloc: Global, view: &mut RecvView<'_>) -> Result<Request, MessageErr>
         requires start { view.old.pos ≡ 0 }
         ensures read { Answers self.now.binding view.old.octets result }
+        ensures memory { (result ≡ Err MessageErr.NoMemory)
+            → CallsOperation self.now.binding view.old.octets }
         ensures op { IfOk result (λ r. r.op < length self.now.binding.ops) }
         ensures typed { IfOk result (λ r. IsWellTyped (request_type self.now.binding r.op) (seen r.value)) }
         ensures code { IfOk result (λ r.
@@ -44,6 +46,7 @@ impl Engine {
         requires start { view.old.pos ≡ 0 }
         requires message { view.old.octets ≡ message.now }
         ensures read { Answers self.now.binding message.now result }
+        ensures memory { (result ≡ Err MessageErr.NoMemory) → CallsOperation self.now.binding message.now }
         ensures op { IfOk result (λ r. r.op < length self.now.binding.ops) }
         ensures typed { IfOk result (λ r. IsWellTyped (request_type self.now.binding r.op) (seen r.value)) }
         ensures code { IfOk result (λ r.

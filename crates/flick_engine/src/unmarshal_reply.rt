@@ -1,6 +1,6 @@
 //! Messages as replies.
 
-ghost use Rattle.std.specs.Prelude.{◌≡◌, ◌≢◌, ◌↔◌, ◌<◌, ℕ, pos, length, drop, Ok, Err, IfOk, IfErr};
+ghost use Rattle.std.specs.Prelude.{◌≡◌, ◌≢◌, ◌↔◌, ◌<◌, ℕ, pos, length, drop, true, Ok, Err, IfOk, IfErr};
 ghost use Rattle.mint.specs.Typed.{IsWellTyped};
 ghost use Rattle.mint.specs.Sound.{IsSound};
 ghost use Rattle.mint.specs.Values.{Val, seen};
@@ -10,10 +10,10 @@ ghost use Rattle.wire_def.specs.Stops.{Stops};
 ghost use Rattle.plain_wire.specs.Answered.{IsValue, IsStop, FirstSpell};
 ghost use Rattle.flick_engine.specs.declared.replies.Fate.TheVariants as fates;
 ghost use Rattle.flick_engine.specs.Backs.{heard, encoding_by, BeginsReply};
-ghost use Rattle.flick_engine.specs.Fates.{is_alone, is_followed};
+ghost use Rattle.flick_engine.specs.Fates.{is_alone, is_followed, takes_memory};
 ghost use Rattle.flick_engine.specs.Received.{IsShort};
 ghost use Rattle.flick_engine.specs.Replies.{reply_type, arm_type, HasArm, IsChoice};
-ghost use Rattle.flick_engine.specs.RepliesReceived.{answered, Says, AnswersReply, IsExactlyReply, IsTypedCame, came};
+ghost use Rattle.flick_engine.specs.RepliesReceived.{answered, Says, AnswersReply, IsExactlyReply, IsTypedCame, TakesMemory, came};
 
 use crate::engine::Engine;
 use crate::errors::MessageErr;
@@ -36,11 +36,33 @@ impl Engine {
         requires op { op < length self.now.binding.ops }
         ensures read { AnswersReply self.now.binding op message.now result }
         ensures typed { IfOk result (λ r. IsTypedCame (reply_type self.now.binding op) (came r.outcome)) }
+        ensures memory { (result ≡ Err MessageErr.NoMemory) → TakesMemory self.now.binding op message.now }
     {
-        let reply = self.begin_reply(op, message)?;
+        match self.begin_reply(op, message) {
+            Ok(reply) => self.read_reply(alloc, op, &reply, message),
+            Err(fault) => Err(fault),
+        }
+    }
+
+    /// Reads what follows the head of a reply.
+    fn read_reply(
+        &self,
+        alloc: Global,
+        op: u32,
+        reply: &ReplyHead<'_>,
+        message: &[u8],
+    ) -> Result<Reply, MessageErr>
+        requires op { op < length self.now.binding.ops }
+        requires short { IsShort message.now }
+        requires begins { BeginsReply self.now.binding op message.now (heard self.now.binding op reply.now) }
+        ensures read { AnswersReply self.now.binding op message.now result }
+        ensures typed { IfOk result (λ r. IsTypedCame (reply_type self.now.binding op) (came r.outcome)) }
+        ensures memory { (result ≡ Err MessageErr.NoMemory)
+            → takes_memory (heard self.now.binding op reply.now).fate ≡ true }
+    {
         match self.fate(alloc, op, reply.status)? {
-            Fate::Arm(arm) => self.read_answer(alloc, op, arm, &reply, message),
-            Fate::Refused(why) => self.reported_by_refusal(op, why, &reply, message),
+            Fate::Arm(arm) => self.read_answer(alloc, op, arm, reply, message),
+            Fate::Refused(why) => self.reported_by_refusal(op, why, reply, message),
         }
     }
 

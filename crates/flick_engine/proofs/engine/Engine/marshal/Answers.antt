@@ -1,32 +1,31 @@
 use Rattle.std.proofs.Common.{subst}
 use Rattle.mint.specs.Values.{seen}
 use Rattle.stub_codes.specs.Stubs.{Coded, IsCoveredRequest, IsSparingRequest}
-use Rattle.flick_engine.proofs.Arming.{long_stop}
+use Rattle.flick_engine.proofs.Arming.{both_so, err_so, long_so, ok_so}
 use Rattle.flick_engine.proofs.engine.Engine.marshal.Goals as goal
 
-pub returns-in-Ok-clause-cost : goal.returns-in-Ok-clause-cost
-returns-in-Ok-clause-cost c = (
-  rw (c.stubs.ensures) at c.in-Ok.ensures.tally,
-  rw (c.stubs.ensures) at c.in-Ok.ensures.spent,
-)
+pub returns-clause-ok : goal.returns-clause-ok
+returns-clause-ok c = rw c.stubs.ensures at (ok_so c.send.result c.ended.result c.ended.ensures _ c.send.ensures.ok)
 
-pub returns-in-Ok-clause-covered : goal.returns-in-Ok-clause-covered
-returns-in-Ok-clause-covered c =
+pub returns-clause-short : goal.returns-clause-short
+returns-clause-short c = rw c.stubs.ensures at (ok_so c.send.result c.ended.result c.ended.ensures _ c.send.ensures.short)
+
+pub returns-clause-cost : goal.returns-clause-cost
+returns-clause-cost c =
+    rw c.stubs.ensures at
+    (both_so c.send.result c.ended.result c.ended.ensures _ _ c.send.ensures.tally c.send.ensures.spent)
+
+pub returns-clause-covered : goal.returns-clause-covered
+returns-clause-covered c =
     subst (λ (x : Coded). IsCoveredRequest x c.args.op c.args.head.now (seen c.args.value.now)) c.stubs.ensures c.send.ensures.covered
 
-pub returns-in-Ok-clause-sparing : goal.returns-in-Ok-clause-sparing
-returns-in-Ok-clause-sparing c =
+pub returns-clause-sparing : goal.returns-clause-sparing
+returns-clause-sparing c =
     subst (λ (x : Coded). IsSparingRequest x c.args.op c.args.head.now (seen c.args.value.now)) c.stubs.ensures c.send.ensures.sparing
 
-pub returns-in-Err-clause-covered : goal.returns-in-Err-clause-covered
-returns-in-Err-clause-covered c =
-    subst (λ (x : Coded). IsCoveredRequest x c.args.op c.args.head.now (seen c.args.value.now)) c.stubs.ensures c.send.ensures.covered
+pub returns-clause-long : goal.returns-clause-long
+returns-clause-long c e =
+    rw c.stubs.ensures at (c.send.ensures.long (long_so c.send.result c.ended.result c.ended.ensures e))
 
-pub returns-in-Err-clause-sparing : goal.returns-in-Err-clause-sparing
-returns-in-Err-clause-sparing c =
-    subst (λ (x : Coded). IsSparingRequest x c.args.op c.args.head.now (seen c.args.value.now)) c.stubs.ensures c.send.ensures.sparing
-
-pub returns-in-Err-clause-long : goal.returns-in-Err-clause-long
-returns-in-Err-clause-long c e =
-    let stop = long_stop c.send.result c.in-Err.why c.refusal_of.result c.in-Err.is c.refusal_of.ensures e in
-    rw c.stubs.ensures at (c.send.ensures.long stop)
+pub returns-clause-err : goal.returns-clause-err
+returns-clause-err c = err_so c.send.result c.ended.result c.ended.ensures _ c.send.ensures.err

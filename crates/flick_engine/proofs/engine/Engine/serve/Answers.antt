@@ -2,7 +2,7 @@ use Rattle.std.proofs.Common.{◌≡◌, ◌∙◌, ◌<◌, ℕ, List, drop, le
 use Rattle.kit_base.specs.Limits.{longest_message}
 use Rattle.raw_buf.specs.declared.tally.Tally.{Tally}
 use Rattle.raw_buf.specs.Buf.{Buf}
-use Rattle.flick_engine.specs.Serving.{Serves, ServesByCode, reply_in}
+use Rattle.flick_engine.specs.Serving.{IsDue, Serves, ServesByCode, reply_in}
 use Rattle.flick_engine.proofs.engine.Engine.serve.Goals as goal
 
 pub returns-in-Ok-clause-serves : goal.returns-in-Ok-clause-serves
@@ -32,3 +32,9 @@ returns-in-Ok-clause-long g c long =
     let whole : c.rest.result.now ≡ c.args.view.now.octets = c.rest.ensures.value
     ∙ ap (λ (n : ℕ). drop n c.args.view.now.octets) c.requires.start in
     sym c.in-Ok.is ∙ c.serve_message.ensures.long (subst (λ (o : List ℕ). longest_message < length o) (sym whole) long)
+
+pub returns-in-Err-clause-memory : goal.returns-in-Err-clause-memory
+returns-in-Err-clause-memory g c =
+    let whole : c.rest.result.now ≡ c.args.view.now.octets = c.rest.ensures.value
+    ∙ ap (λ (n : ℕ). drop n c.args.view.now.octets) c.requires.start in
+    subst (λ (o : List ℕ). IsDue c.args.self.now.binding c.args.self.now.minor o) whole c.in-Err.ensures.memory

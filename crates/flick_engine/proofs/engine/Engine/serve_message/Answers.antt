@@ -1,4 +1,5 @@
 use Rattle.std.proofs.Common.{arith}
+use Rattle.flick_engine.proofs.Replying.{call_due, fault_due}
 use Rattle.flick_engine.proofs.ServingCosts.{stopped_at, stopped_view}
 use Rattle.flick_engine.proofs.engine.Engine.serve_message.Goals as goal
 
@@ -18,3 +19,13 @@ returns-in-Ok-clause-long g c long = absurd (omega (arith, long, c.if-message-gt
 
 pub returns-in-Err-clause-long : goal.returns-in-Err-clause-long
 returns-in-Err-clause-long g c long = absurd (omega (arith, long, c.if-message-gt-LONGEST_MESSAGE.false))
+
+pub returns-in-Ok-clause-memory : goal.returns-in-Ok-clause-memory
+returns-in-Ok-clause-memory g c =
+    call_due c.serve_call.result c.args.self.now.binding c.args.self.now.minor c.args.message.now c.in-Ok.called
+    (omega (arith, c.if-message-gt-LONGEST_MESSAGE.false)) c.in-Ok.ensures.begins c.serve_call.ensures.memory
+
+pub returns-in-Err-clause-memory : goal.returns-in-Err-clause-memory
+returns-in-Err-clause-memory g c =
+    fault_due c.answer_fault.result c.args.self.now.binding c.args.self.now.minor c.args.message.now c.in-Err.fault
+    (omega (arith, c.if-message-gt-LONGEST_MESSAGE.false)) c.in-Err.ensures.stops c.answer_fault.ensures.memory
