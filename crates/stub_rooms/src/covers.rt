@@ -14,6 +14,7 @@ use cast_stub::{SendCode, SendOps};
 use kit_base::NoMemory;
 use mint::table::{Mint, NodeId};
 use std::alloc::Global;
+use stub_places::Spot;
 use stub_places::sets::every;
 
 /// How deep blocks may nest.
@@ -30,12 +31,7 @@ fn is_run(ops: &SendOps, id: NodeId, walk: &Walk<'_>, left: &mut u64) -> Result<
 }
 
 /// Whether a code of the list is not refused from no room at any residue.
-fn is_run_bare(
-    ops: &SendOps,
-    spot: Option<NodeId>,
-    walk: &Walk<'_>,
-    left: &mut u64,
-) -> Result<bool, NoMemory>
+fn is_run_bare(ops: &SendOps, spot: Spot, walk: &Walk<'_>, left: &mut u64) -> Result<bool, NoMemory>
     ensures { IfOk result
         (λ b. b ≡ is_some (run (nodes walk.now) spot (code_seen ops.now) None (on every 0))) }
 {
@@ -47,7 +43,7 @@ fn is_run_bare(
 /// Whether the code of a place in the list is not refused.
 fn is_run_at(
     codes: &[SendOps],
-    spots: &[Option<NodeId>],
+    spots: &[Spot],
     i: usize,
     walk: &Walk<'_>,
     left: &mut u64,
@@ -64,7 +60,7 @@ fn is_run_at(
 /// Whether each code of the list is not refused.
 fn are_run(
     codes: &[SendOps],
-    spots: &[Option<NodeId>],
+    spots: &[Spot],
     walk: &Walk<'_>,
     left: &mut u64,
 ) -> Result<bool, NoMemory>
@@ -89,7 +85,7 @@ pub fn covers_code(
     code: &SendCode,
     mint: &Mint,
     id: NodeId,
-    spots: &[Option<NodeId>],
+    spots: &[Spot],
     left: &mut u64,
 ) -> Result<bool, NoMemory>
     ensures { IfOk result (λ b. b ≡ covers_at mint.now id code.now (Some spots.now)) }

@@ -6,9 +6,9 @@ ghost use Rattle.stub_rooms.specs.CoversLap.{nodes};
 
 use cast_stub::{Path, SendOps};
 use kit_base::NoMemory;
-use mint::table::{Mint, NodeId};
+use mint::table::Mint;
 use std::alloc::Global;
-use stub_places::spot_at;
+use stub_places::{Spot, spot_at};
 
 /// The turn of a loop.
 #[derive(Clone, Copy)]
@@ -16,7 +16,7 @@ pub(crate) enum Lap<'a> {
     /// So many octets: a number of a row.
     Octets(u32),
     /// A body over a place.
-    Body(&'a SendOps, Option<NodeId>),
+    Body(&'a SendOps, Spot),
 }
 
 /// What a walk through code has: the memory, the types, and how deep blocks may nest.
@@ -48,7 +48,7 @@ impl<'a> Walk<'a> {
 }
 
 /// The place at a path.
-pub(crate) fn place_at(path: &Path, spot: Option<NodeId>, walk: &Walk<'_>) -> Option<NodeId>
+pub(crate) fn place_at(path: &Path, spot: Spot, walk: &Walk<'_>) -> Spot
     ensures { result ≡ spot_at (nodes walk.now) path.now spot }
 {
     spot_at(walk.mint, path.as_slice(), spot)

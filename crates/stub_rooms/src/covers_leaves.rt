@@ -15,22 +15,18 @@ use crate::covers_lap::{Lap, Walk, place_at};
 use crate::rooms::{Rooms, room};
 use cast_stub::{Path, SendCases, SendLast, SendOp, SendOps};
 use kit_base::NoMemory;
-use mint::table::NodeId;
 use stub_places::sets::{Set, aligned, every, is_within, moved, none, size, sum};
 use stub_places::{
-    arm_spot_at, element_at, is_width, present_at, rest_spot_at, row_kind_at, spend_op, spend_ways,
-    width_of,
+    Spot, arm_spot_at, element_at, is_width, present_at, rest_spot_at, row_kind_at, spend_op,
+    spend_ways, width_of,
 };
+
+/// The residues that code leads to.
+type Marks = Result<Set, NoMemory>;
 
 /// Behind operations over a place.
 #[cycle(leaves)]
-fn leaves(
-    ops: &SendOps,
-    spot: Option<NodeId>,
-    marks: &Set,
-    walk: &Walk<'_>,
-    left: &mut u64,
-) -> Result<Set, NoMemory>
+fn leaves(ops: &SendOps, spot: Spot, marks: &Set, walk: &Walk<'_>, left: &mut u64) -> Marks
     ensures { IfOk result (λ m. Shown (leaves (nodes walk.now) spot (code_seen ops.now)) marks.now m) }
 {
     let inner = walk.deeper()?;
@@ -44,13 +40,7 @@ fn leaves(
 
 /// Behind an operation.
 #[cycle(leaves)]
-fn leave_op(
-    op: &SendOp,
-    spot: Option<NodeId>,
-    marks: &Set,
-    walk: &Walk<'_>,
-    left: &mut u64,
-) -> Result<Set, NoMemory>
+fn leave_op(op: &SendOp, spot: Spot, marks: &Set, walk: &Walk<'_>, left: &mut u64) -> Marks
     ensures { IfOk result (λ m. Leads (nodes walk.now) spot (op_seen op.now) marks.now m) }
 {
     match op {
@@ -91,13 +81,7 @@ fn leave_align(a: u32, marks: &Set) -> Set
 
 /// Behind the numbers of a row.
 #[cycle(leaves)]
-fn leave_row(
-    path: &Path,
-    spot: Option<NodeId>,
-    marks: &Set,
-    walk: &Walk<'_>,
-    left: &mut u64,
-) -> Result<Set, NoMemory>
+fn leave_row(path: &Path, spot: Spot, marks: &Set, walk: &Walk<'_>, left: &mut u64) -> Marks
     ensures { IfOk result (λ m. let n = node_of (nodes walk.now) (spot_at (nodes walk.now) path.now spot) in
         Shown (closed (moved (width_of (row_kind n)))) marks.now m) }
 {
@@ -111,11 +95,11 @@ fn leave_row(
 fn leave_ways(
     cases: &SendCases,
     last: &SendLast,
-    place: Option<NodeId>,
+    place: Spot,
     marks: &Set,
     walk: &Walk<'_>,
     left: &mut u64,
-) -> Result<Set, NoMemory>
+) -> Marks
     ensures { IfOk result (λ m. let cs = cases_seen cases.now last.now in
         Shown (ways_leave (nodes walk.now) (node_of (nodes walk.now) place) cs cs) marks.now m) }
 {
@@ -136,7 +120,7 @@ fn leave_ways(
 
 /// Behind one lap of a loop.
 #[cycle(leaves)]
-fn leave_lap(lap: Lap<'_>, marks: &Set, walk: &Walk<'_>, left: &mut u64) -> Result<Set, NoMemory>
+fn leave_lap(lap: Lap<'_>, marks: &Set, walk: &Walk<'_>, left: &mut u64) -> Marks
     ensures { IfOk result (λ m. Shown (leaves_of (nodes walk.now) lap.entry) marks.now m) }
 {
     match lap {
@@ -147,12 +131,7 @@ fn leave_lap(lap: Lap<'_>, marks: &Set, walk: &Walk<'_>, left: &mut u64) -> Resu
 
 /// The least set with this one that a lap does not leave.
 #[cycle(leaves)]
-pub(crate) fn closed(
-    lap: Lap<'_>,
-    marks: &Set,
-    walk: &Walk<'_>,
-    left: &mut u64,
-) -> Result<Set, NoMemory>
+pub(crate) fn closed(lap: Lap<'_>, marks: &Set, walk: &Walk<'_>, left: &mut u64) -> Marks
     ensures { IfOk result (λ m. Shown (closed (leaves_of (nodes walk.now) lap.entry)) marks.now m) }
 {
     let mut all = *marks;
@@ -191,12 +170,7 @@ fn reached(rooms: &Rooms) -> Set
 }
 
 /// The residues that a loop comes to.
-pub(crate) fn reach(
-    lap: Lap<'_>,
-    rooms: &Rooms,
-    walk: &Walk<'_>,
-    left: &mut u64,
-) -> Result<Set, NoMemory>
+pub(crate) fn reach(lap: Lap<'_>, rooms: &Rooms, walk: &Walk<'_>, left: &mut u64) -> Marks
     ensures { IfOk result
         (λ m. (R : AllRooms) → rooms.now ≡ each_of R → m ≡ each_of (reach_of (nodes walk.now) lap.entry R)) }
 {

@@ -18,24 +18,17 @@ use crate::covers_standing::{
     wide_loop,
 };
 use crate::rooms::{
-    Rooms, bare, joined_last, least, lowest, no_rooms, only_room, raised, spread, took,
+    Ends, Rooms, bare, joined_last, least, lowest, no_rooms, only_room, raised, spread, took,
 };
 use crate::turns::{turn_on, turning_from};
 use cast_stub::{Path, SendCases, SendLast, SendOp, SendOps};
 use kit_base::NoMemory;
-use mint::table::NodeId;
 use stub_places::sets::{Set, contains, every};
-use stub_places::{arm_spot_at, present_at, rest_spot_at, spend, spend_op, spend_ways};
+use stub_places::{Spot, arm_spot_at, present_at, rest_spot_at, spend, spend_op, spend_ways};
 
 /// The rooms behind operations over a place, from a state without a credit.
 #[cycle(run)]
-pub(crate) fn run(
-    ops: &SendOps,
-    spot: Option<NodeId>,
-    rooms: &Rooms,
-    walk: &Walk<'_>,
-    left: &mut u64,
-) -> Result<Option<Rooms>, NoMemory>
+pub(crate) fn run(ops: &SendOps, spot: Spot, rooms: &Rooms, walk: &Walk<'_>, left: &mut u64) -> Ends
     ensures { IfOk result (λ x. Follows (run (nodes walk.now) spot (code_seen ops.now) None) rooms.now x) }
 {
     let inner = walk.deeper()?;
@@ -58,7 +51,7 @@ pub(crate) fn run(
 #[cycle(run)]
 fn run_op(
     op: &SendOp,
-    spot: Option<NodeId>,
+    spot: Spot,
     state: &mut Standing,
     walk: &Walk<'_>,
     left: &mut u64,
@@ -121,11 +114,11 @@ fn run_op(
 fn run_ways(
     cases: &SendCases,
     last: &SendLast,
-    place: Option<NodeId>,
+    place: Spot,
     rooms: &Rooms,
     walk: &Walk<'_>,
     left: &mut u64,
-) -> Result<Option<Rooms>, NoMemory>
+) -> Ends
     ensures { IfOk result (λ x. let cs = cases_seen cases.now last.now in
         Follows (run_ways (nodes walk.now) (node_of (nodes walk.now) place) cs cs) rooms.now x) }
 {
@@ -152,13 +145,7 @@ fn run_ways(
 
 /// The rooms behind a body that may be run.
 #[cycle(run)]
-fn run_some(
-    body: &SendOps,
-    spot: Option<NodeId>,
-    rooms: &Rooms,
-    walk: &Walk<'_>,
-    left: &mut u64,
-) -> Result<Option<Rooms>, NoMemory>
+fn run_some(body: &SendOps, spot: Spot, rooms: &Rooms, walk: &Walk<'_>, left: &mut u64) -> Ends
     ensures { IfOk result (λ x. let f = run (nodes walk.now) spot (code_seen body.now) None in
         Follows (λ R. option_map (least R) (f R)) rooms.now x) }
 {
@@ -168,12 +155,7 @@ fn run_some(
 
 /// The rooms behind one lap of a loop.
 #[cycle(run)]
-fn run_lap(
-    lap: Lap<'_>,
-    rooms: &Rooms,
-    walk: &Walk<'_>,
-    left: &mut u64,
-) -> Result<Option<Rooms>, NoMemory>
+fn run_lap(lap: Lap<'_>, rooms: &Rooms, walk: &Walk<'_>, left: &mut u64) -> Ends
     ensures { IfOk result (λ x. Follows (turn_of (nodes walk.now) lap.entry) rooms.now x) }
 {
     match lap {
@@ -187,12 +169,7 @@ fn run_lap(
 
 /// The rooms behind a loop, if there is one: the first of three ways that is not refused.
 #[cycle(run)]
-fn run_loop(
-    looping: Option<Looping<'_>>,
-    rooms: &Rooms,
-    walk: &Walk<'_>,
-    left: &mut u64,
-) -> Result<Option<Rooms>, NoMemory>
+fn run_loop(looping: Option<Looping<'_>>, rooms: &Rooms, walk: &Walk<'_>, left: &mut u64) -> Ends
     ensures { IfOk result (λ x. Follows (maybe_loop (nodes walk.now) looping.entry) rooms.now x) }
 {
     let looping = match looping {
@@ -218,7 +195,7 @@ fn run_bounded(
     rooms: &Rooms,
     walk: &Walk<'_>,
     left: &mut u64,
-) -> Result<Option<Rooms>, NoMemory>
+) -> Ends
     ensures { IfOk result (λ x. let f = turn_of (nodes walk.now) lap.entry in
         Follows (bounded_loop f most) rooms.now x) }
 {
@@ -230,13 +207,7 @@ fn run_bounded(
 
 /// The rooms where each element has its own octets.
 #[cycle(run)]
-fn run_free(
-    lap: Lap<'_>,
-    unit: Option<u32>,
-    rooms: &Rooms,
-    walk: &Walk<'_>,
-    left: &mut u64,
-) -> Result<Option<Rooms>, NoMemory>
+fn run_free(lap: Lap<'_>, unit: Option<u32>, rooms: &Rooms, walk: &Walk<'_>, left: &mut u64) -> Ends
     ensures { IfOk result (λ x. let N = nodes walk.now in let f = turn_of N lap.entry in
         Follows (λ R. free_loop f (reach_of N lap.entry R) (is_plain_lap lap.entry) unit R) rooms.now x) }
 {
@@ -302,13 +273,7 @@ fn suffices(
 
 /// The least rooms of 0 to so many laps. It stops early where rooms come back.
 #[cycle(run)]
-fn turns(
-    lap: Lap<'_>,
-    most: u32,
-    rooms: &Rooms,
-    walk: &Walk<'_>,
-    left: &mut u64,
-) -> Result<Option<Rooms>, NoMemory>
+fn turns(lap: Lap<'_>, most: u32, rooms: &Rooms, walk: &Walk<'_>, left: &mut u64) -> Ends
     ensures { IfOk result (λ x. Follows (turns most (turn_of (nodes walk.now) lap.entry)) rooms.now x) }
 {
     let mut turning = turning_from(rooms);
@@ -328,12 +293,7 @@ fn turns(
 
 /// The rooms behind any number of laps, each from no room.
 #[cycle(run)]
-fn run_bare(
-    lap: Lap<'_>,
-    rooms: &Rooms,
-    walk: &Walk<'_>,
-    left: &mut u64,
-) -> Result<Option<Rooms>, NoMemory>
+fn run_bare(lap: Lap<'_>, rooms: &Rooms, walk: &Walk<'_>, left: &mut u64) -> Ends
     ensures { IfOk result (λ x. let N = nodes walk.now in
         Follows (λ R. bare_loop (turn_of N lap.entry) (reach_of N lap.entry R) R) rooms.now x) }
 {

@@ -19,9 +19,9 @@ use crate::rooms::{Rooms, padded, set};
 use cast_stub::copies::copy_path;
 use cast_stub::{Path, SendOps};
 use kit_base::NoMemory;
-use mint::table::{Mint, NodeId};
+use mint::table::Mint;
 use std::alloc::Global;
-use stub_places::{element_at, greatest_at, has_length_at, is_width, row_kind_at, width};
+use stub_places::{Spot, element_at, greatest_at, has_length_at, is_width, row_kind_at, width};
 
 /// Where a run of a block stands.
 #[derive(Drop)]
@@ -75,7 +75,7 @@ pub(crate) fn run_ensure_row(
     path: &Path,
     unit: u32,
     extra: u32,
-    spot: Option<NodeId>,
+    spot: Spot,
     state: &mut Standing,
     walk: &Walk<'_>,
 ) -> Result<bool, NoMemory>
@@ -102,7 +102,7 @@ pub(crate) fn run_align(a: u32, rooms: &Rooms) -> Option<Rooms>
 }
 
 /// The octets of a number of a row, where its kind is known.
-fn own_width(mint: &Mint, place: Option<NodeId>) -> Option<u32>
+fn own_width(mint: &Mint, place: Spot) -> Option<u32>
     ensures { result ≡ option_map width (row_kind (node_of mint.now place)) }
 {
     match row_kind_at(mint, place) {
@@ -112,7 +112,7 @@ fn own_width(mint: &Mint, place: Option<NodeId>) -> Option<u32>
 }
 
 /// Four octets for a number of a row, where its kind is known.
-fn four(mint: &Mint, place: Option<NodeId>) -> Option<u32>
+fn four(mint: &Mint, place: Spot) -> Option<u32>
     ensures { result ≡ option_map (λ k. 4) (row_kind (node_of mint.now place)) }
 {
     match row_kind_at(mint, place) {
@@ -169,13 +169,11 @@ pub(crate) struct Looping<'a> {
     pub unit: Option<u32>,
 }
 
+/// A loop over the numbers of a row, where their kind is known.
+pub(crate) type Loop<'a> = Option<Looping<'a>>;
+
 /// The loop over the numbers of a row, each of so many octets, where their kind is known.
-fn row_loop<'a>(
-    width: Option<u32>,
-    place: Option<NodeId>,
-    unit: Option<u32>,
-    mint: &Mint,
-) -> Option<Looping<'a>>
+fn row_loop<'a>(width: Option<u32>, place: Spot, unit: Option<u32>, mint: &Mint) -> Loop<'a>
     ensures { (N : List Node) (R : AllRooms)
         → maybe_loop N result R ≡ run_row (node_of mint.now place) width unit R }
 {
@@ -190,12 +188,7 @@ fn row_loop<'a>(
 }
 
 /// The loop over the image of a row.
-pub(crate) fn image_loop<'a>(
-    path: &Path,
-    spot: Option<NodeId>,
-    state: &Standing,
-    walk: &Walk<'_>,
-) -> Option<Looping<'a>>
+pub(crate) fn image_loop<'a>(path: &Path, spot: Spot, state: &Standing, walk: &Walk<'_>) -> Loop<'a>
     ensures { (R : AllRooms) → let n = node_of (nodes walk.now) (spot_at (nodes walk.now) path.now spot) in
         maybe_loop (nodes walk.now) result R
         ≡ run_row n (option_map width (row_kind n)) (unit_of path.now (credit state.now)) R }
@@ -210,12 +203,7 @@ pub(crate) fn image_loop<'a>(
 }
 
 /// The loop over the numbers of a row in four octets each.
-pub(crate) fn wide_loop<'a>(
-    path: &Path,
-    spot: Option<NodeId>,
-    state: &Standing,
-    walk: &Walk<'_>,
-) -> Option<Looping<'a>>
+pub(crate) fn wide_loop<'a>(path: &Path, spot: Spot, state: &Standing, walk: &Walk<'_>) -> Loop<'a>
     ensures { (R : AllRooms) → let n = node_of (nodes walk.now) (spot_at (nodes walk.now) path.now spot) in
         maybe_loop (nodes walk.now) result R
         ≡ run_row n (option_map (λ k. 4) (row_kind n)) (unit_of path.now (credit state.now)) R }
@@ -233,7 +221,7 @@ pub(crate) fn wide_loop<'a>(
 pub(crate) fn each_loop<'a>(
     path: &Path,
     body: &'a SendOps,
-    spot: Option<NodeId>,
+    spot: Spot,
     state: &Standing,
     walk: &Walk<'_>,
 ) -> Looping<'a>

@@ -7,11 +7,15 @@ ghost use Rattle.stub_cover.specs.Rooms.{lesser, least, no_rooms, only_room, on,
 ghost use Rattle.stub_rooms.specs.RoomsShown.{room_at, least_of, spread, joined};
 ghost use Rattle.stub_places.specs.Sets.{each_of, set_of};
 
+use kit_base::NoMemory;
 use stub_places::at_each;
 use stub_places::sets::{Set, before, both, contains, gap};
 
 /// A room for each residue, none where no way leads there.
 pub(crate) type Rooms = [Option<u64>; 8];
+
+/// The rooms behind code, where it is not refused.
+pub(crate) type Ends = Result<Option<Rooms>, NoMemory>;
 
 /// The room at a residue.
 pub(crate) fn room(rooms: &Rooms, r: usize) -> Option<u64>
