@@ -1,14 +1,11 @@
 //! The texts of the stub code of operations.
 
-ghost use Rattle.std.specs.Prelude.{◌≡◌, ◌++◌, ◌<◌, length, map, IfOk, IfSome, OnOk, slice_get};
-ghost use Rattle.aoi.specs.Plain.{plain_interface};
-ghost use Rattle.json_shape.specs.Operations.{interface_name, dotted};
+ghost use Rattle.std.specs.Prelude.{◌≡◌, ◌++◌, ◌<◌, length, IfOk, IfSome, OnOk, slice_get};
 ghost use Rattle.flick_texts.specs.StubTexts.{both_texts, counted_text, received_text, sent_text, stubs_text};
 
-use aoi::Interface;
 use flick_engine::Engine;
+use json_shape::dotted;
 use kit_base::{Name, NoMemory, Octets};
-use pres::Op;
 use std::alloc::Global;
 use stub_print::{print_recv, print_send};
 
@@ -21,7 +18,7 @@ pub fn stubs_text(alloc: Global, engine: &Engine) -> Result<Octets, NoMemory>
     let mut out = Octets::new(alloc);
     let interfaces = engine.bound().unit().interfaces().as_slice();
     for (i, op) in engine.bound().ops().as_slice().iter().enumerate() {
-        let name = full_name(alloc, interfaces, op)?;
+        let name = dotted(alloc, interfaces, op)?;
         append_both(alloc, engine, number_of(i)?, &name, &mut out)?;
     }
     Ok(out)
@@ -35,7 +32,7 @@ pub fn counted_text(alloc: Global, engine: &Engine) -> Result<Octets, NoMemory>
     let mut out = Octets::new(alloc);
     let interfaces = engine.bound().unit().interfaces().as_slice();
     for (i, op) in engine.bound().ops().as_slice().iter().enumerate() {
-        let name = full_name(alloc, interfaces, op)?;
+        let name = dotted(alloc, interfaces, op)?;
         append_sent(alloc, engine, number_of(i)?, &name, &mut out)?;
     }
     out.append(b"--\n")?;
@@ -52,14 +49,11 @@ fn number_of(i: usize) -> Result<u32, NoMemory>
     }
 }
 
+/// A text that grew, or out of memory.
+type Grown = Result<(), NoMemory>;
+
 /// Appends the texts of both codes of an operation.
-fn append_both(
-    alloc: Global,
-    engine: &Engine,
-    op: u32,
-    name: &Name,
-    out: &mut Octets,
-) -> Result<(), NoMemory>
+fn append_both(alloc: Global, engine: &Engine, op: u32, name: &Name, out: &mut Octets) -> Grown
     requires { op < length engine.now.binding.ops }
     ensures text { OnOk result (IfSome (slice_get engine.now.stubs op)
         (λ s. out.new ≡ out.old ++ both_texts name.now s)) }
@@ -69,13 +63,7 @@ fn append_both(
 }
 
 /// Appends the text of the code that sends an operation's requests.
-fn append_sent(
-    alloc: Global,
-    engine: &Engine,
-    op: u32,
-    name: &Name,
-    out: &mut Octets,
-) -> Result<(), NoMemory>
+fn append_sent(alloc: Global, engine: &Engine, op: u32, name: &Name, out: &mut Octets) -> Grown
     requires { op < length engine.now.binding.ops }
     ensures text { OnOk result (IfSome (slice_get engine.now.stubs op)
         (λ s. out.new ≡ out.old ++ sent_text name.now s)) }
@@ -85,38 +73,11 @@ fn append_sent(
 }
 
 /// Appends the text of the code that receives an operation's requests.
-fn append_received(
-    alloc: Global,
-    engine: &Engine,
-    op: u32,
-    name: &Name,
-    out: &mut Octets,
-) -> Result<(), NoMemory>
+fn append_received(alloc: Global, engine: &Engine, op: u32, name: &Name, out: &mut Octets) -> Grown
     requires { op < length engine.now.binding.ops }
     ensures text { OnOk result (IfSome (slice_get engine.now.stubs op)
         (λ s. out.new ≡ out.old ++ received_text name.now s)) }
 {
     let text = print_recv(alloc, name, engine.recv_code(op))?;
     out.append(text.as_slice())
-}
-
-/// The full name of an operation: its interface's name, a dot, and its own.
-fn full_name(alloc: Global, interfaces: &[Interface], op: &Op) -> Result<Name, NoMemory>
-    ensures { IfOk result (λ n. n ≡ dotted (map plain_interface interfaces.now) op.now) }
-{
-    let mut name = Name::new(alloc);
-    name.append(interface_name(interfaces, op.interface))?;
-    name.append(b".")?;
-    name.append(op.name.as_slice())?;
-    Ok(name)
-}
-
-/// The name of an interface.
-fn interface_name(interfaces: &[Interface], k: u32) -> &[u8]
-    ensures { result.now ≡ interface_name (map plain_interface interfaces.now) k }
-{
-    match interfaces.get(k as usize) {
-        Some(interface) => interface.name.as_slice(),
-        None => &[],
-    }
 }

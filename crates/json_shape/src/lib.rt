@@ -36,6 +36,7 @@ pub use json::Scratch;
 pub use laws::{
     json_is_decided, json_presents_one_value, records_are_read_back, written_json_presents,
 };
+pub use operations::dotted;
 pub use printed_records::request_text;
 pub use printed_replies::reply_text;
 pub use reading::to_value;

@@ -83,8 +83,8 @@ fn count_of(back: Back, interface: &Interface, k: usize, ops: &[Op]) -> usize
     }
 }
 
-/// The name of an operation in a record.
-pub(crate) fn dotted(alloc: Global, interfaces: &[Interface], op: &Op) -> Result<Octets, NoMemory>
+/// Name of an operation in a record: that of its interface, a dot, and its own.
+pub fn dotted(alloc: Global, interfaces: &[Interface], op: &Op) -> Result<Octets, NoMemory>
     ensures { IfOk result (λ o. o ≡ dotted (map plain_interface interfaces.now) op.now) }
 {
     let mut name = Octets::new(alloc);
