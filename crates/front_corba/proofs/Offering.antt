@@ -268,7 +268,7 @@ operation_is d env home b out o is h =
     let rs = raises_are (length types) g.given.names s.exceptions (inside name env) d nothing i.given o.raises is.state.exceptions empty
     i.first in
     let mid = with_names g.given.names b in
-    let made = operation_of o g.given.ins g.given.outs j.given i.given in
+    let made = operation_of o.name.name o.oneway g.given.ins g.given.outs j.given i.given in
     let one : OperationIs (length types) made = record { ins = ps.ins; outs = ps.outs; result = result; raises = rs.are; few = rs.few } in
     let mid_is : BodyIs mid = record { state = names_is s g.given.names is.state ps.scope; ops = is.ops } in
     let pair : Names × PlainOperation = (g.given.names, made) in

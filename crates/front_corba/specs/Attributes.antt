@@ -1,7 +1,7 @@
 -- Attributes.
 use Rattle.std.specs.Prelude.{Bool, false, ℕ, List, [], ◌∷◌, ◌++◌, codes, Option, None, Ok, if◌then◌else◌}
 use Rattle.aoi.specs.declared.faults.NameFault.{NameFault}
-use Rattle.aoi.specs.Shapes.{Shape, void, no_more, member}
+use Rattle.aoi.specs.Shapes.{Shape, void}
 use Rattle.aoi.specs.Plain.{PlainOperation}
 use Rattle.idl_names.specs.Answers.{Answer, and_then}
 use Rattle.idl_exprs.specs.declared.tree.Identifier.{Identifier}
@@ -13,6 +13,7 @@ use Rattle.corba_shapes.specs.declared.forms.Form.{Form}
 use Rattle.corba_shapes.specs.Forms.{type_form, form_shape}
 use Rattle.front_corba.specs.State.{PlainOffer, Body}
 use Rattle.front_corba.specs.Offers.{own_clash, offered_on}
+use Rattle.front_corba.specs.Operations.{operation_of}
 
 -- the names of the operations that an attribute stands for
 abbrev pub get_name : List ℕ → List ℕ
@@ -23,19 +24,10 @@ set_name x = codes "_set_" ++ x
 
 -- the operations that an attribute stands for: one gives it, and one sets it
 abbrev pub getter : List ℕ → Shape → PlainOperation
-getter x s = record { name = get_name x; proc_no = 0; slot = 0; ins = no_more; outs = no_more; result = s; raises = []; oneway = false }
+getter x s = operation_of (get_name x) false [] [] s []
 
 abbrev pub setter : List ℕ → Shape → PlainOperation
-setter x s = record {
-  name = set_name x;
-  proc_no = 0;
-  slot = 0;
-  ins = member x s no_more;
-  outs = no_more;
-  result = void;
-  raises = [];
-  oneway = false;
-}
+setter x s = operation_of (set_name x) false ((x, s) ∷ []) [] void []
 
 -- why the operation that sets an attribute may not be beside these, unless the attribute can only be read
 abbrev pub set_clash : Names → List ℕ → List PlainOffer → Bool → List ℕ → Option NameFault

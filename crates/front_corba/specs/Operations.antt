@@ -27,16 +27,16 @@ result_of s env d None = Ok void
 result_of s env d (Some t) = and_then (type_form s env d t.0 t.1) (λ f. Ok (form_shape f []))
 
 -- an operation of these parts, before it has its place
-abbrev pub operation_of : Operation → List (List ℕ × Shape) → List (List ℕ × Shape) → Shape → List PlainRaise → PlainOperation
-operation_of o ins outs result raises = record {
-  name = o.name.name;
+abbrev pub operation_of : List ℕ → Bool → List (List ℕ × Shape) → List (List ℕ × Shape) → Shape → List PlainRaise → PlainOperation
+operation_of name oneway ins outs result raises = record {
+  name = name;
   proc_no = 0;
   slot = 0;
   ins = members_of ins;
   outs = members_of outs;
   result = result;
   raises = raises;
-  oneway = o.oneway;
+  oneway = oneway;
 }
 
 -- the plain tree of the result of an operation that may be beside these: its name is tested where it is
@@ -53,7 +53,7 @@ abbrev pub signed_on : ℕ → List (List ℕ) → Names → List PlainRaise →
 signed_on d env s exceptions o result =
     and_then (parameters_on env d (no_parameters s) o.parameters) (λ ps.
     and_then (raises_on ps.names exceptions env d [] o.raises) (λ raises.
-    Ok (ps.names, operation_of o ps.ins ps.outs result raises)))
+    Ok (ps.names, operation_of o.name.name o.oneway ps.ins ps.outs result raises)))
 
 -- an operation, whose name is declared after it
 abbrev pub operation_on : ℕ → List (List ℕ) → ℕ → Body → Operation → Answer Body

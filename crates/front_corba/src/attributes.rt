@@ -4,21 +4,21 @@ ghost use Rattle.std.specs.Prelude.{◌≡◌, [], ◌∷◌, map, IfOk};
 ghost use Rattle.aoi.specs.Shapes.{seen_field};
 ghost use Rattle.aoi.specs.Plain.{plain_operation};
 ghost use Rattle.idl_names.specs.Answers.{Gives};
+ghost use Rattle.corba_scopes.specs.Around.{innermost};
 ghost use Rattle.corba_shapes.specs.Forms.{form_shape};
 ghost use Rattle.front_corba.specs.Held.{plain_offer, body};
-ghost use Rattle.front_corba.specs.Attributes.{getter, setter, get_name, set_name, set_clash, attribute_clash, setter_on, attribute_on, attributes_on, attribute_names_on};
+ghost use Rattle.front_corba.specs.Attributes.{getter, setter, get_name, set_name, attribute_clash, attribute_on, attributes_on};
 
 use crate::named::Offers;
 use crate::offers::{offer, own_clash};
+use crate::operations::operation_of;
 use crate::parameters::field;
 use crate::{NameErr, NameFault};
 use aoi::{Fields, Operation, Raises, Ty};
 use corba_scopes::{Meaning, Scopes, full_name, innermost, lower_of, refuse_fault};
 use corba_shapes::{At, Form, Shapes, form_ty, type_form};
 use corba_syntax::Attribute;
-use idl_exprs::Identifier;
 use kit_base::{Name, NoMemory};
-use kit_shared::Shared;
 use std::alloc::Global;
 
 /// The name of the operation that gives an attribute.
@@ -39,60 +39,36 @@ fn set_name(alloc: Global, name: &[u8]) -> Result<Name, NoMemory>
 fn getter(alloc: Global, name: &[u8], form: &Form) -> Result<Operation, NoMemory>
     ensures { IfOk result (λ o. plain_operation o ≡ getter name.now (form_shape form.now [])) }
 {
-    Ok(Operation {
-        name: Shared::new(alloc, get_name(alloc, name)?)?,
-        proc_no: 0,
-        slot: 0,
-        ins: Shared::new(alloc, Fields::new(alloc))?,
-        outs: Shared::new(alloc, Fields::new(alloc))?,
-        result: Shared::new(alloc, form_ty(alloc, form, &[])?)?,
-        raises: Shared::new(alloc, Raises::new(alloc))?,
-        oneway: false,
-    })
-}
-
-/// One field of a type.
-fn one_field(alloc: Global, name: &[u8], form: &Form) -> Result<Fields, NoMemory>
-    ensures { IfOk result (λ fields. map seen_field fields ≡ (name.now, form_shape form.now []) ∷ []) }
-{
-    let mut fields = Fields::new(alloc);
-    fields.push(field(alloc, name, form)?)?;
-    Ok(fields)
+    let ins = Fields::new(alloc);
+    let outs = Fields::new(alloc);
+    let ty = form_ty(alloc, form, &[])?;
+    operation_of(
+        alloc,
+        get_name(alloc, name)?,
+        false,
+        ins,
+        outs,
+        ty,
+        Raises::new(alloc),
+    )
 }
 
 /// The operation that sets an attribute.
 fn setter(alloc: Global, name: &[u8], form: &Form) -> Result<Operation, NoMemory>
     ensures { IfOk result (λ o. plain_operation o ≡ setter name.now (form_shape form.now [])) }
 {
-    Ok(Operation {
-        name: Shared::new(alloc, set_name(alloc, name)?)?,
-        proc_no: 0,
-        slot: 0,
-        ins: Shared::new(alloc, one_field(alloc, name, form)?)?,
-        outs: Shared::new(alloc, Fields::new(alloc))?,
-        result: Shared::new(alloc, Ty::Void)?,
-        raises: Shared::new(alloc, Raises::new(alloc))?,
-        oneway: false,
-    })
-}
-
-/// Why the operation that sets an attribute may not be beside these, or nothing; an attribute that can only
-/// be read does not have it.
-fn set_clash(
-    alloc: Global,
-    scopes: &Scopes,
-    scope: &[u8],
-    ops: &Offers,
-    readonly: bool,
-    name: &[u8],
-) -> Result<Option<NameFault>, NoMemory>
-    ensures { IfOk result (λ f. f
-        ≡ set_clash scopes.now scope.now (map plain_offer ops.now) readonly name.now) }
-{
-    if readonly {
-        return Ok(None);
-    }
-    own_clash(alloc, scopes, scope, set_name(alloc, name)?.as_slice(), ops)
+    let mut ins = Fields::new(alloc);
+    ins.push(field(alloc, name, form)?)?;
+    let outs = Fields::new(alloc);
+    operation_of(
+        alloc,
+        set_name(alloc, name)?,
+        false,
+        ins,
+        outs,
+        Ty::Void,
+        Raises::new(alloc),
+    )
 }
 
 /// Why an attribute may not be beside these operations, or nothing.
@@ -109,44 +85,17 @@ fn attribute_clash(
 {
     let f = scopes.clash(alloc, scope, name)?;
     let g = own_clash(alloc, scopes, scope, get_name(alloc, name)?.as_slice(), ops)?;
-    let h = set_clash(alloc, scopes, scope, ops, readonly, name)?;
-    Ok(lower_of(f, lower_of(g, h)))
-}
-
-/// Declares the operation that sets an attribute, unless the attribute can only be read.
-fn offer_setter(
-    alloc: Global,
-    d: u32,
-    scope: &[u8],
-    home: u32,
-    readonly: bool,
-    form: &Form,
-    shapes: &mut Shapes,
-    ops: &mut Offers,
-    name: &[u8],
-) -> Result<(), NameErr>
-    ensures { Gives (λ _. body shapes.new ops.new) result
-        (setter_on d scope.now home readonly form.now (body shapes.old ops.old) name.now) }
-{
     if readonly {
-        return Ok(());
+        return Ok(lower_of(f, lower_of(g, None)));
     }
-    offer(
-        alloc,
-        d,
-        scope,
-        home,
-        shapes,
-        ops,
-        setter(alloc, name, form)?,
-    )
+    let h = own_clash(alloc, scopes, scope, set_name(alloc, name)?.as_slice(), ops)?;
+    Ok(lower_of(f, lower_of(g, h)))
 }
 
 /// Declares an attribute: its name, and its operations.
 fn attribute(
     alloc: Global,
-    d: u32,
-    scope: &[u8],
+    at: At,
     home: u32,
     readonly: bool,
     form: &Form,
@@ -154,24 +103,22 @@ fn attribute(
     ops: &mut Offers,
     name: &[u8],
 ) -> Result<(), NameErr>
-    ensures { Gives (λ _. body shapes.new ops.new) result
-        (attribute_on d scope.now home readonly form.now (body shapes.old ops.old) name.now) }
+    ensures { Gives (λ _. body shapes.new ops.new) result (attribute_on at.entry.d
+        (innermost at.entry.env.now) home readonly form.now (body shapes.old ops.old) name.now) }
 {
+    let scope = innermost(at.env);
     let clash = attribute_clash(alloc, &shapes.scopes, scope, ops, readonly, name)?;
-    refuse_fault(d, clash)?;
+    refuse_fault(at.d, clash)?;
     shapes
         .scopes
-        .declare_new(alloc, d, scope, name, Meaning::Other)?;
-    offer(
-        alloc,
-        d,
-        scope,
-        home,
-        shapes,
-        ops,
-        getter(alloc, name, form)?,
-    )?;
-    offer_setter(alloc, d, scope, home, readonly, form, shapes, ops, name)
+        .declare_new(alloc, at.d, scope, name, Meaning::Other)?;
+    let get = getter(alloc, name, form)?;
+    offer(alloc, at, home, shapes, ops, get)?;
+    if readonly {
+        return Ok(());
+    }
+    let set = setter(alloc, name, form)?;
+    offer(alloc, at, home, shapes, ops, set)
 }
 
 /// Declares attributes of one type.
@@ -187,46 +134,9 @@ pub(crate) fn attributes(
         (attributes_on at.entry.d at.entry.env.now home (body shapes.old ops.old) a.now) }
 {
     let form = type_form(alloc, &shapes.scopes, at, &a.of)?;
-    attributes_of(
-        alloc,
-        at.d,
-        innermost(at.env),
-        home,
-        a.readonly,
-        &form,
-        shapes,
-        ops,
-        a.names.as_slice(),
-    )
-}
-
-/// Declares attributes of a type, by their names.
-fn attributes_of(
-    alloc: Global,
-    d: u32,
-    scope: &[u8],
-    home: u32,
-    readonly: bool,
-    form: &Form,
-    shapes: &mut Shapes,
-    ops: &mut Offers,
-    names: &[Identifier],
-) -> Result<(), NameErr>
-    ensures { Gives (λ _. body shapes.new ops.new) result
-        (attribute_names_on d scope.now home readonly form.now (body shapes.old ops.old) names.now) }
-{
-    for name in names {
-        attribute(
-            alloc,
-            d,
-            scope,
-            home,
-            readonly,
-            form,
-            shapes,
-            ops,
-            name.name.as_slice(),
-        )?;
+    for item in a.names.as_slice() {
+        let name = item.name.as_slice();
+        attribute(alloc, at, home, a.readonly, &form, shapes, ops, name)?;
     }
     Ok(())
 }

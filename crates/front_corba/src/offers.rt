@@ -4,6 +4,7 @@ ghost use Rattle.std.specs.Prelude.{◌≡◌, ◌≤◌, map, IfOk};
 ghost use Rattle.kit_base.specs.Limits.{most_operations};
 ghost use Rattle.aoi.specs.Plain.{plain_operation};
 ghost use Rattle.idl_names.specs.Answers.{Gives};
+ghost use Rattle.corba_scopes.specs.Around.{innermost};
 ghost use Rattle.front_corba.specs.Held.{plain_offer, body};
 ghost use Rattle.front_corba.specs.Offers.{operation_clash, own_clash, placed, added_on, offered_on};
 
@@ -11,8 +12,8 @@ use crate::named::Offers;
 use crate::state::Offer;
 use crate::{NameErr, NameFault};
 use aoi::Operation;
-use corba_scopes::{Meaning, Scopes, lower_of};
-use corba_shapes::Shapes;
+use corba_scopes::{Meaning, Scopes, innermost, lower_of};
+use corba_shapes::{At, Shapes};
 use kit_base::NoMemory;
 use kit_base::limits::MOST_OPERATIONS;
 use std::alloc::Global;
@@ -82,21 +83,21 @@ pub(crate) fn add(
     Ok(())
 }
 
-/// Declares the name of an operation, and puts it after the others.
+/// Declares the name of an operation at a place, and puts the operation after the others.
 pub(crate) fn offer(
     alloc: Global,
-    d: u32,
-    scope: &[u8],
+    at: At,
     home: u32,
     shapes: &mut Shapes,
     ops: &mut Offers,
     operation: Operation,
 ) -> Result<(), NameErr>
-    ensures { Gives (λ _. body shapes.new ops.new) result
-        (offered_on d scope.now home (body shapes.old ops.old) (plain_operation operation)) }
+    ensures { Gives (λ _. body shapes.new ops.new) result (offered_on at.entry.d
+        (innermost at.entry.env.now) home (body shapes.old ops.old) (plain_operation operation)) }
 {
+    let name = operation.name.as_slice();
     shapes
         .scopes
-        .declare_new(alloc, d, scope, operation.name.as_slice(), Meaning::Other)?;
-    add(alloc, d, home, operation, ops)
+        .declare_new(alloc, at.d, innermost(at.env), name, Meaning::Other)?;
+    add(alloc, at.d, home, operation, ops)
 }

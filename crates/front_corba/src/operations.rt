@@ -19,8 +19,8 @@ use corba_scopes::{Scopes, innermost, inside, refuse_fault};
 use corba_shapes::{At, Shapes, form_ty, type_form};
 use corba_syntax::{Operation as OperationTree, Reference};
 use idl_names::refuse;
-use kit_base::NoMemory;
 use kit_base::limits::MOST_OPERATIONS;
+use kit_base::{Name, NoMemory};
 use kit_shared::Shared;
 use std::alloc::Global;
 
@@ -60,26 +60,27 @@ fn result_of(
 }
 
 /// An operation of these parts, before it has its place.
-fn operation_of(
+pub(crate) fn operation_of(
     alloc: Global,
-    o: &OperationTree,
+    name: Name,
+    oneway: bool,
     ins: Fields,
     outs: Fields,
     ty: Ty,
     raises: Raises,
 ) -> Result<Operation, NoMemory>
-    ensures { IfOk result (λ p. plain_operation p
-        ≡ operation_of o.now (map seen_field ins) (map seen_field outs) (seen ty) (map plain_raise raises)) }
+    ensures { IfOk result (λ p. plain_operation p ≡ operation_of name oneway
+        (map seen_field ins) (map seen_field outs) (seen ty) (map plain_raise raises)) }
 {
     Ok(Operation {
-        name: Shared::new(alloc, copy_name(alloc, o.name.name.as_slice())?)?,
+        name: Shared::new(alloc, name)?,
         proc_no: 0,
         slot: 0,
         ins: Shared::new(alloc, ins)?,
         outs: Shared::new(alloc, outs)?,
         result: Shared::new(alloc, ty)?,
         raises: Shared::new(alloc, raises)?,
-        oneway: o.oneway,
+        oneway,
     })
 }
 
@@ -133,7 +134,8 @@ fn signed(
         o.parameters.as_slice(),
     )?;
     let raises = raises(alloc, scopes, exceptions, at, o.raises.as_slice())?;
-    Ok(operation_of(alloc, o, ins, outs, ty, raises)?)
+    let name = copy_name(alloc, o.name.name.as_slice())?;
+    Ok(operation_of(alloc, name, o.oneway, ins, outs, ty, raises)?)
 }
 
 /// Declares an operation, and at its end its name.
@@ -155,5 +157,5 @@ pub(crate) fn operation(
         d: at.d,
     };
     let made = signed(alloc, &mut shapes.scopes, &shapes.exceptions, inner, o, ty)?;
-    offer(alloc, at.d, innermost(at.env), home, shapes, ops, made)
+    offer(alloc, at, home, shapes, ops, made)
 }
