@@ -137,6 +137,17 @@ pub(crate) fn refused(alloc: Global, refusal: RecordErr) -> Result<Octets, NoMem
     }
 }
 
+/// A message that was not made is too long, unless memory ran out.
+pub fn long_alone(why: MarshalErr) -> Result<(), NoMemory>
+    ensures long { OnOk result (why ≡ MarshalErr.Long) }
+    ensures only { OnErr result (why ≡ MarshalErr.NoMemory) }
+{
+    match why {
+        MarshalErr::Long => Ok(()),
+        MarshalErr::NoMemory => Err(NoMemory),
+    }
+}
+
 /// Makes the message of a request in the buffer, unless it is too long.
 fn made_of(
     alloc: Global,
@@ -158,7 +169,9 @@ fn made_of(
 {
     match engine.marshal(record.op, &record.head, &record.value, buf) {
         Ok(()) => Ok(None),
-        Err(MarshalErr::Long) => Ok(Some(copied(alloc, b"! long")?)),
-        Err(MarshalErr::NoMemory) => Err(NoMemory),
+        Err(why) => {
+            long_alone(why)?;
+            Ok(Some(copied(alloc, b"! long")?))
+        }
     }
 }

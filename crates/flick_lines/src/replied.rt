@@ -12,9 +12,9 @@ ghost use Rattle.flick_lines.specs.declared.verb.Verb.TheVariants as verbs;
 ghost use Rattle.flick_lines.specs.Marshalled.{digits_of, reply_digits, IsOfRecord, IsReplied};
 ghost use Rattle.flick_lines.specs.Paid.{reply_by_code, IsPaid, IsPaidRecord};
 
-use crate::marshalled::{refused, tree_of};
+use crate::marshalled::{long_alone, refused, tree_of};
 use crate::text::{copied, digits};
-use flick_engine::{Engine, MarshalErr};
+use flick_engine::Engine;
 use json_shape::{RequestRec, read_reply};
 use kit_base::{NoMemory, Octets};
 use raw_buf::SendBuf;
@@ -76,7 +76,9 @@ fn digits_of(
 {
     match engine.marshal_reply(record.op, &record.head, &record.value, buf) {
         Ok(()) => digits(alloc, buf.octets()),
-        Err(MarshalErr::Long) => copied(alloc, b"! long"),
-        Err(MarshalErr::NoMemory) => Err(NoMemory),
+        Err(why) => {
+            long_alone(why)?;
+            copied(alloc, b"! long")
+        }
     }
 }
