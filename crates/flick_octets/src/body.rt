@@ -4,7 +4,7 @@ use crate::entry::What;
 use crate::layout::{filling_of, gap_of, width_of};
 use crate::sayings::{Sense, field_path, member_path, number_said, place_path, said_of};
 use crate::scalars::{nodes_of_kinds, number_at, value_at};
-use crate::sheet::{Halt, Sheet};
+use crate::sheet::{Halt, Sheet, Told};
 use kit_base::NoMemory;
 use mint::kind::{Count, Kind};
 use mint::node::{Arms, Node, NodeIds, Tag, arm_of};
@@ -65,12 +65,7 @@ impl Body<'_> {
     }
 
     /// The octets that align the next number, which has so many.
-    pub(crate) fn tell_gap(
-        &self,
-        sheet: &mut Sheet<'_>,
-        width: usize,
-        path: &str,
-    ) -> Result<(), Halt> {
+    pub(crate) fn tell_gap(&self, sheet: &mut Sheet<'_>, width: usize, path: &str) -> Told {
         let gap = gap_of(self.encoding, width, sheet.end());
         tell_padding(sheet, gap, path)
     }
@@ -109,7 +104,7 @@ impl Body<'_> {
 }
 
 /// So many octets, if any, of what is no value.
-fn tell_other(sheet: &mut Sheet<'_>, n: usize, what: What, path: &str) -> Result<(), Halt> {
+fn tell_other(sheet: &mut Sheet<'_>, n: usize, what: What, path: &str) -> Told {
     if n == 0 {
         return Ok(());
     }
@@ -119,30 +114,24 @@ fn tell_other(sheet: &mut Sheet<'_>, n: usize, what: What, path: &str) -> Result
 }
 
 /// So many octets, if any, that align or fill up.
-pub(crate) fn tell_padding(sheet: &mut Sheet<'_>, n: usize, path: &str) -> Result<(), Halt> {
+pub(crate) fn tell_padding(sheet: &mut Sheet<'_>, n: usize, path: &str) -> Told {
     tell_other(sheet, n, What::Padding, path)
 }
 
 /// A descriptor of so many octets.
-pub(crate) fn tell_descriptor(sheet: &mut Sheet<'_>, n: usize, path: &str) -> Result<(), Halt> {
+pub(crate) fn tell_descriptor(sheet: &mut Sheet<'_>, n: usize, path: &str) -> Told {
     tell_other(sheet, n, What::Descriptor, path)
 }
 
 /// The octet 0 at the end of a text.
-pub(crate) fn tell_end(sheet: &mut Sheet<'_>, path: &str) -> Result<(), Halt> {
+pub(crate) fn tell_end(sheet: &mut Sheet<'_>, path: &str) -> Told {
     tell_other(sheet, 1, What::End, path)
 }
 
 impl Body<'_> {
     /// The octets of a value of a node, for so many levels of types.
     #[cycle(walk)]
-    pub(crate) fn tell(
-        &self,
-        sheet: &mut Sheet<'_>,
-        id: NodeId,
-        levels: u32,
-        path: &str,
-    ) -> Result<(), Halt> {
+    pub(crate) fn tell(&self, sheet: &mut Sheet<'_>, id: NodeId, levels: u32, path: &str) -> Told {
         let Some((node, shape)) = self.bound.part(id) else {
             return Err(sheet.fault());
         };
@@ -166,13 +155,7 @@ impl Body<'_> {
 
     /// A part of a value, one level deeper.
     #[cycle(walk)]
-    fn tell_part(
-        &self,
-        sheet: &mut Sheet<'_>,
-        id: NodeId,
-        levels: u32,
-        path: &str,
-    ) -> Result<(), Halt> {
+    fn tell_part(&self, sheet: &mut Sheet<'_>, id: NodeId, levels: u32, path: &str) -> Told {
         match levels.checked_sub(1) {
             Some(levels) => self.tell(sheet, id, levels, path),
             None => Err(sheet.fault()),
@@ -180,13 +163,7 @@ impl Body<'_> {
     }
 
     /// A number that is a value.
-    fn tell_number(
-        &self,
-        sheet: &mut Sheet<'_>,
-        kind: Kind,
-        sense: Sense<'_>,
-        path: &str,
-    ) -> Result<(), Halt> {
+    fn tell_number(&self, sheet: &mut Sheet<'_>, kind: Kind, sense: Sense<'_>, path: &str) -> Told {
         self.tell_lone(sheet, kind, sense, path)?;
         Ok(())
     }
@@ -200,7 +177,7 @@ impl Body<'_> {
         names: Option<&FieldTable>,
         levels: u32,
         path: &str,
-    ) -> Result<(), Halt> {
+    ) -> Told {
         for (i, id) in ids.as_slice().iter().enumerate() {
             let inner = field_path(sheet.alloc(), path, names, i)?;
             self.tell_part(sheet, *id, levels, inner.as_str())?;
@@ -217,7 +194,7 @@ impl Body<'_> {
         count: Count,
         levels: u32,
         path: &str,
-    ) -> Result<(), Halt> {
+    ) -> Told {
         let n = match count {
             Count::Exactly(n) => n as usize,
             Count::AtMost(_) | Count::Any => self.tell_count(sheet, path)?,
@@ -240,7 +217,7 @@ impl Body<'_> {
         other: Option<NodeId>,
         levels: u32,
         path: &str,
-    ) -> Result<(), Halt> {
+    ) -> Told {
         let Some(n) = self.tell_tag(sheet, shape, tag, path)? else {
             return Err(sheet.fault());
         };
@@ -269,13 +246,7 @@ impl Body<'_> {
 
     /// An optional value: whether it is there, and it.
     #[cycle(walk)]
-    fn tell_optional(
-        &self,
-        sheet: &mut Sheet<'_>,
-        item: NodeId,
-        levels: u32,
-        path: &str,
-    ) -> Result<(), Halt> {
+    fn tell_optional(&self, sheet: &mut Sheet<'_>, item: NodeId, levels: u32, path: &str) -> Told {
         match self.tell_lone(sheet, Kind::Bool, Sense::Presence, path)? {
             Some(0) => Ok(()),
             Some(_) => {

@@ -4,7 +4,7 @@ ghost use Rattle.std.specs.Prelude.{◌≡◌, ◌≤◌, Some, None, IfOk, leng
 ghost use Rattle.flick_octets.specs.Laid.{laid};
 
 use crate::body::{Body, LEVELS};
-use crate::sheet::{Halt, Sheet};
+use crate::sheet::{Halt, Sheet, Told};
 use crate::stops::{Stop, Why};
 use crate::table::{Table, end_of, table_of, table_of_long};
 use crate::{giop, mach, onc};
@@ -46,7 +46,7 @@ fn read_called(bound: &Bound, message: &[u8]) -> Result<CallHead, HeadErr> {
 }
 
 /// The fields of the head, up to its first fault.
-fn tell_head(sheet: &mut Sheet<'_>, back: Back) -> Result<(), Halt> {
+fn tell_head(sheet: &mut Sheet<'_>, back: Back) -> Told {
     match back {
         Back::Xdr => onc::tell_call_head(sheet),
         Back::CdrBig | Back::CdrLittle => giop::tell_call_head(sheet),
@@ -55,7 +55,7 @@ fn tell_head(sheet: &mut Sheet<'_>, back: Back) -> Result<(), Halt> {
 }
 
 /// Where the telling of a part ended, or its fault is.
-pub(crate) fn place_of(sheet: &Sheet<'_>, told: Result<(), Halt>) -> Result<usize, NoMemory> {
+pub(crate) fn place_of(sheet: &Sheet<'_>, told: Told) -> Result<usize, NoMemory> {
     match told {
         Ok(()) => Ok(sheet.end()),
         Err(Halt::At(place)) => Ok(place),

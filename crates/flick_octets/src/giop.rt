@@ -4,7 +4,7 @@ use crate::giop_fields::{
     tell_contexts, tell_gap, tell_lead, tell_long, tell_long_choice, tell_sequence, tell_string,
 };
 use crate::head_fields::{tell_field, tell_named, tell_word, word_ahead};
-use crate::sheet::{Halt, Sheet};
+use crate::sheet::{Halt, Sheet, Told};
 use crate::texts::decimal;
 use wire_def::Order;
 
@@ -85,7 +85,7 @@ fn tell_header(sheet: &mut Sheet<'_>, expected: u8, name: &str) -> Result<Headin
 }
 
 /// The head of a request.
-pub(crate) fn tell_call_head(sheet: &mut Sheet<'_>) -> Result<(), Halt> {
+pub(crate) fn tell_call_head(sheet: &mut Sheet<'_>) -> Told {
     let heading = tell_header(sheet, 0, "Request")?;
     let order = heading.order;
     if heading.minor == 0 {
@@ -107,7 +107,7 @@ pub(crate) fn tell_call_head(sheet: &mut Sheet<'_>) -> Result<(), Halt> {
 }
 
 /// Whether a reply is wanted, in version 1.0.
-fn tell_wanted(sheet: &mut Sheet<'_>) -> Result<(), Halt> {
+fn tell_wanted(sheet: &mut Sheet<'_>) -> Told {
     let name = match octet_ahead(sheet)? {
         0 => "false",
         1 => "true",
@@ -117,7 +117,7 @@ fn tell_wanted(sheet: &mut Sheet<'_>) -> Result<(), Halt> {
 }
 
 /// Whether a reply is wanted, in version 1.2: bit 0 of four octets.
-fn tell_flags(sheet: &mut Sheet<'_>) -> Result<(), Halt> {
+fn tell_flags(sheet: &mut Sheet<'_>) -> Told {
     if sheet.rest().len() < 4 {
         return Err(sheet.fault());
     }
@@ -128,7 +128,7 @@ fn tell_flags(sheet: &mut Sheet<'_>) -> Result<(), Halt> {
 }
 
 /// The kind of a request's target, which is a key.
-fn tell_target(sheet: &mut Sheet<'_>, order: Order) -> Result<(), Halt> {
+fn tell_target(sheet: &mut Sheet<'_>, order: Order) -> Told {
     tell_gap(sheet, 2, "target")?;
     let kind = match sheet.rest() {
         [a, b, ..] => match order {
@@ -144,7 +144,7 @@ fn tell_target(sheet: &mut Sheet<'_>, order: Order) -> Result<(), Halt> {
 }
 
 /// The head of a reply.
-pub(crate) fn tell_reply_head(sheet: &mut Sheet<'_>) -> Result<(), Halt> {
+pub(crate) fn tell_reply_head(sheet: &mut Sheet<'_>) -> Told {
     let heading = tell_header(sheet, 1, "Reply")?;
     let order = heading.order;
     if heading.minor == 0 {
@@ -160,7 +160,7 @@ pub(crate) fn tell_reply_head(sheet: &mut Sheet<'_>) -> Result<(), Halt> {
 }
 
 /// What follows the status of a reply.
-fn tell_detail(sheet: &mut Sheet<'_>, order: Order, status: u32) -> Result<(), Halt> {
+fn tell_detail(sheet: &mut Sheet<'_>, order: Order, status: u32) -> Told {
     if status == 0 {
         return Ok(());
     }

@@ -2,19 +2,14 @@
 
 use crate::entry::What;
 use crate::sayings::{Sense, number_said, said_of};
-use crate::sheet::{Halt, Sheet};
+use crate::sheet::{Halt, Sheet, Told};
 use crate::texts::{decimal, digits, owned};
 use head_kit::{Cursor, word};
 use mint::kind::Kind;
 use wire_def::Order;
 
 /// A field of so many octets with a value. Where they are not all there, that is the fault.
-pub(crate) fn tell_field(
-    sheet: &mut Sheet<'_>,
-    n: usize,
-    name: &str,
-    value: String,
-) -> Result<(), Halt> {
+pub(crate) fn tell_field(sheet: &mut Sheet<'_>, n: usize, name: &str, value: String) -> Told {
     if sheet.rest().len() < n {
         return Err(sheet.fault());
     }
@@ -24,12 +19,7 @@ pub(crate) fn tell_field(
 }
 
 /// A field of so many octets whose value has a name.
-pub(crate) fn tell_named(
-    sheet: &mut Sheet<'_>,
-    n: usize,
-    name: &str,
-    value: &str,
-) -> Result<(), Halt> {
+pub(crate) fn tell_named(sheet: &mut Sheet<'_>, n: usize, name: &str, value: &str) -> Told {
     let value = owned(sheet.alloc(), value)?;
     tell_field(sheet, n, name, value)
 }
@@ -74,7 +64,7 @@ pub(crate) fn tell_this_word(
     order: Order,
     name: &str,
     value: &str,
-) -> Result<(), Halt> {
+) -> Told {
     if word_ahead(sheet, order)? != n {
         return Err(sheet.fault());
     }
@@ -113,7 +103,7 @@ pub(crate) fn tell_length(sheet: &mut Sheet<'_>, order: Order, name: &str) -> Re
 }
 
 /// So many octets of any content.
-pub(crate) fn tell_octets(sheet: &mut Sheet<'_>, n: usize, name: &str) -> Result<(), Halt> {
+pub(crate) fn tell_octets(sheet: &mut Sheet<'_>, n: usize, name: &str) -> Told {
     let Some(octets) = sheet.rest().get(..n) else {
         return Err(sheet.fault());
     };

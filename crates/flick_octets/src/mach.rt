@@ -2,7 +2,7 @@
 
 use crate::body::tell_descriptor;
 use crate::head_fields::{tell_word, tell_word_up_to, word_ahead};
-use crate::sheet::{Halt, Sheet};
+use crate::sheet::{Sheet, Told};
 use wire_def::Order;
 
 /// The octets of a header.
@@ -15,7 +15,7 @@ const COMPLEX: u32 = 0x8000_0000;
 const RETURN: u32 = 0x1001_2002;
 
 /// The head of a request, which is a header alone; of a reply that has an id.
-pub(crate) fn tell_header(sheet: &mut Sheet<'_>, id: Option<u32>) -> Result<(), Halt> {
+pub(crate) fn tell_header(sheet: &mut Sheet<'_>, id: Option<u32>) -> Told {
     if sheet.rest().len() < HEADER {
         return Err(sheet.fault());
     }
@@ -34,7 +34,7 @@ pub(crate) fn tell_header(sheet: &mut Sheet<'_>, id: Option<u32>) -> Result<(), 
 }
 
 /// The id, where it is any or this one.
-fn tell_id(sheet: &mut Sheet<'_>, id: Option<u32>) -> Result<(), Halt> {
+fn tell_id(sheet: &mut Sheet<'_>, id: Option<u32>) -> Told {
     let found = word_ahead(sheet, Order::Little)?;
     if let Some(id) = id {
         if found != id {
@@ -46,7 +46,7 @@ fn tell_id(sheet: &mut Sheet<'_>, id: Option<u32>) -> Result<(), Halt> {
 }
 
 /// The head of a reply that has an id, to a routine that raises so many exceptions.
-pub(crate) fn tell_reply_head(sheet: &mut Sheet<'_>, id: u32, arms: u32) -> Result<(), Halt> {
+pub(crate) fn tell_reply_head(sheet: &mut Sheet<'_>, id: u32, arms: u32) -> Told {
     tell_header(sheet, Some(id))?;
     tell_return(sheet, "RetCode")?;
     let code = tell_word(sheet, Order::Little, "RetCode")?;
@@ -59,7 +59,7 @@ pub(crate) fn tell_reply_head(sheet: &mut Sheet<'_>, id: u32, arms: u32) -> Resu
 }
 
 /// The descriptor of a return code, or of the number of an arm.
-fn tell_return(sheet: &mut Sheet<'_>, name: &str) -> Result<(), Halt> {
+fn tell_return(sheet: &mut Sheet<'_>, name: &str) -> Told {
     if word_ahead(sheet, Order::Little)? != RETURN {
         return Err(sheet.fault());
     }

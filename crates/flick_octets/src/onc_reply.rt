@@ -2,7 +2,7 @@
 
 use crate::head_fields::{tell_choice, tell_word, tell_word_up_to};
 use crate::onc::{tell_auth, tell_type, tell_xid};
-use crate::sheet::{Halt, Sheet};
+use crate::sheet::{Sheet, Told};
 use wire_def::Order;
 
 /// The names of the states of a reply.
@@ -22,7 +22,7 @@ const ACCEPT_STATES: [&str; 6] = [
 const REJECT_STATES: [&str; 2] = ["RPC_MISMATCH", "AUTH_ERROR"];
 
 /// The head of a reply to a procedure that raises so many exceptions.
-pub(crate) fn tell_reply_head(sheet: &mut Sheet<'_>, arms: u32) -> Result<(), Halt> {
+pub(crate) fn tell_reply_head(sheet: &mut Sheet<'_>, arms: u32) -> Told {
     tell_xid(sheet)?;
     tell_type(sheet, 1)?;
     if tell_choice(sheet, &REPLY_STATES, Order::Big, "reply_stat")? == 0 {
@@ -34,7 +34,7 @@ pub(crate) fn tell_reply_head(sheet: &mut Sheet<'_>, arms: u32) -> Result<(), Ha
 }
 
 /// The state of an accepted call.
-fn tell_accepted(sheet: &mut Sheet<'_>, arms: u32) -> Result<(), Halt> {
+fn tell_accepted(sheet: &mut Sheet<'_>, arms: u32) -> Told {
     match tell_choice(sheet, &ACCEPT_STATES, Order::Big, "accept_stat")? {
         0 if arms > 0 => {
             tell_word_up_to(sheet, arms, Order::Big, "exception")?;
@@ -46,7 +46,7 @@ fn tell_accepted(sheet: &mut Sheet<'_>, arms: u32) -> Result<(), Halt> {
 }
 
 /// Why a call was denied.
-fn tell_denied(sheet: &mut Sheet<'_>) -> Result<(), Halt> {
+fn tell_denied(sheet: &mut Sheet<'_>) -> Told {
     if tell_choice(sheet, &REJECT_STATES, Order::Big, "reject_stat")? == 0 {
         return tell_versions(sheet);
     }
@@ -55,7 +55,7 @@ fn tell_denied(sheet: &mut Sheet<'_>) -> Result<(), Halt> {
 }
 
 /// The least and the greatest of some versions.
-fn tell_versions(sheet: &mut Sheet<'_>) -> Result<(), Halt> {
+fn tell_versions(sheet: &mut Sheet<'_>) -> Told {
     tell_word(sheet, Order::Big, "mismatch_info.low")?;
     tell_word(sheet, Order::Big, "mismatch_info.high")?;
     Ok(())

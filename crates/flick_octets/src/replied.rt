@@ -7,7 +7,7 @@ use crate::body::{Body, LEVELS};
 use crate::called::{Part, place_of};
 use crate::exceptions::raise_of;
 use crate::sayings::place_path;
-use crate::sheet::{Halt, Sheet};
+use crate::sheet::{Sheet, Told};
 use crate::stops::{Stop, Why};
 use crate::table::{Table, table_of, table_of_long};
 use crate::texts::owned;
@@ -76,7 +76,7 @@ fn read_head<'m>(back: Back, asked: Asked, message: &'m [u8]) -> Result<ReplyHea
 }
 
 /// The fields of the head, up to its first fault.
-fn tell_head(sheet: &mut Sheet<'_>, back: Back, asked: Asked) -> Result<(), Halt> {
+fn tell_head(sheet: &mut Sheet<'_>, back: Back, asked: Asked) -> Told {
     match back {
         Back::Xdr => onc_reply::tell_reply_head(sheet, asked.arms),
         Back::CdrBig | Back::CdrLittle => giop::tell_reply_head(sheet),
@@ -167,7 +167,7 @@ fn encoding_of(back: Back, order: Order) -> Encoding {
 
 impl Body<'_> {
     /// The result, and the parameters that come out.
-    pub(crate) fn tell_results(&self, sheet: &mut Sheet<'_>, id: NodeId) -> Result<(), Halt> {
+    pub(crate) fn tell_results(&self, sheet: &mut Sheet<'_>, id: NodeId) -> Told {
         let Some((Node::Group(ids), _)) = self.bound.part(id) else {
             return Err(sheet.fault());
         };

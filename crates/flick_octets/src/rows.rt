@@ -5,7 +5,7 @@ use crate::entry::What;
 use crate::layout::{after_row, width_of};
 use crate::sayings::{place_path, said_of, value_text};
 use crate::scalars::element_of;
-use crate::sheet::{Halt, Sheet};
+use crate::sheet::{Halt, Sheet, Told};
 use crate::texts::{digits, kind_word, owned, quoted, row_type, text_type};
 use head_kit::{Cursor, word};
 use kit_base::NoMemory;
@@ -23,7 +23,7 @@ impl Body<'_> {
         id: NodeId,
         count: Count,
         path: &str,
-    ) -> Result<(), Halt> {
+    ) -> Told {
         let alloc = sheet.alloc();
         let value = self.row_text(alloc, id, sheet.end())?;
         let n = match self.encoding {
@@ -49,7 +49,7 @@ impl Body<'_> {
         kind: Kind,
         count: Count,
         path: &str,
-    ) -> Result<(), Halt> {
+    ) -> Told {
         let alloc = sheet.alloc();
         let value = self.row_text(alloc, id, sheet.end())?;
         let n = self.tell_row_length(sheet, kind, count, path)?;
@@ -92,13 +92,7 @@ impl Body<'_> {
     }
 
     /// So many elements of a row, each with its path.
-    fn tell_elements(
-        &self,
-        sheet: &mut Sheet<'_>,
-        kind: Kind,
-        n: usize,
-        path: &str,
-    ) -> Result<(), Halt> {
+    fn tell_elements(&self, sheet: &mut Sheet<'_>, kind: Kind, n: usize, path: &str) -> Told {
         let width = width_of(self.encoding, kind);
         if n > 0 {
             self.tell_gap(sheet, width, path)?;
@@ -110,13 +104,7 @@ impl Body<'_> {
     }
 
     /// An element of a row.
-    fn tell_element(
-        &self,
-        sheet: &mut Sheet<'_>,
-        kind: Kind,
-        i: usize,
-        path: &str,
-    ) -> Result<(), Halt> {
+    fn tell_element(&self, sheet: &mut Sheet<'_>, kind: Kind, i: usize, path: &str) -> Told {
         let alloc = sheet.alloc();
         let width = width_of(self.encoding, kind);
         let n = match sheet.rest().get(..width) {

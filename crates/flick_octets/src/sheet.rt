@@ -17,6 +17,9 @@ pub(crate) enum Halt {
     At(usize),
 }
 
+/// What telling octets comes to.
+pub(crate) type Told = Result<(), Halt>;
+
 impl From<NoMemory> for Halt {
     fn from(_refused: NoMemory) -> Halt {
         Halt::NoMemory
@@ -117,7 +120,7 @@ impl<'m> Sheet<'m> {
     }
 
     /// Says of the next octets what they are. Those past the limit are left out, and no value is said then.
-    pub(crate) fn tell(&mut self, n: usize, said: Said) -> Result<(), Halt> {
+    pub(crate) fn tell(&mut self, n: usize, said: Said) -> Told {
         let left = self.limit.saturating_sub(self.end);
         if n <= left {
             self.put(self.end + n, said)?;
