@@ -97,6 +97,13 @@ impl<T> Listed<T> {
     {
         self.items.as_slice()
     }
+
+    /// The vector of the items, for those who take each of them.
+    pub fn into_items(self) -> Vec<T>
+        ensures { result.items ≡ self }
+    {
+        self.items
+    }
 }
 
 impl<T: Drop> Listed<T> {
