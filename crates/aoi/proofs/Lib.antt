@@ -8,3 +8,5 @@ pub mod Numbers
 pub mod Seen
 -- * A unit is sound where its plain tree is, by induction on the lists of its parts
 pub mod Plainly
+-- * A list is a full name where it begins with the prefix, and goes on as the own part
+pub mod FullNames

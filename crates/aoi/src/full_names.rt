@@ -1,8 +1,11 @@
 //! Full names, of which a prefix is kept once.
 
-ghost use Rattle.std.specs.Prelude.{◌≡◌, ◌++◌, IfOk};
+ghost use Rattle.std.specs.Prelude.{◌≡◌, ◌++◌, length, nat_lt, IfOk};
+ghost use Rattle.std.specs.Option.{option_copied};
+ghost use Rattle.std.specs.Str.{bytes_eq};
+ghost use Rattle.aoi.specs.FullNames.{full_name};
 
-use kit_base::{Name, NoMemory};
+use kit_base::{Listed, Name, NoMemory};
 use kit_shared::Shared;
 use std::alloc::Global;
 use std::marker::Model;
@@ -42,6 +45,13 @@ impl FullName {
         })
     }
 
+    /// The prefix, where there is one, and the own part.
+    pub fn pieces(&self) -> (Option<&Shared<Name>>, &[u8])
+        ensures { self.now ≡ full_name (option_copied result.0) result.1.now }
+    {
+        (self.prefix.as_ref(), self.own.as_slice())
+    }
+
     /// The prefix, which may be empty, and the own part.
     pub fn parts(&self) -> (&[u8], &[u8])
         ensures { self.now ≡ result.0.now ++ result.1.now }
@@ -52,4 +62,38 @@ impl FullName {
             None => (&[], own),
         }
     }
+
+    /// Whether it has more octets than so many.
+    pub fn is_longer(&self, most: usize) -> bool
+        ensures { result ≡ nat_lt most (length self.now) }
+    {
+        let (prefix, own) = self.parts();
+        prefix.len() > most || own.len() > most - prefix.len()
+    }
+
+    /// Whether these are its octets.
+    #[tactic(auto, using(crate::proofs::FullNames::same_after, crate::proofs::FullNames::differs_before))]
+    pub fn is(&self, text: &[u8]) -> bool
+        ensures { result ≡ bytes_eq text.now self.now }
+    {
+        let (prefix, own) = self.parts();
+        match text.strip_prefix(prefix) {
+            Some(rest) => rest == own,
+            None => false,
+        }
+    }
+
+    /// Its octets as one list.
+    pub fn whole(&self, alloc: Global) -> Result<Name, NoMemory>
+        ensures { IfOk result (λ whole. whole ≡ self.now) }
+    {
+        let (prefix, own) = self.parts();
+        let mut whole = Name::with_room(alloc, prefix.len().saturating_add(own.len()))?;
+        whole.append(prefix)?;
+        whole.append(own)?;
+        Ok(whole)
+    }
 }
+
+/// Full names, each of which may have more owners.
+pub type FullNames = Listed<Shared<FullName>>;

@@ -1,6 +1,6 @@
 //! Interfaces and their operations. What operations have in common is kept once.
 
-use crate::{Fields, RaiseFields, Ty};
+use crate::{Fields, FullName, RaiseFields, Ty};
 use kit_base::{Listed, Name};
 use kit_shared::Shared;
 
@@ -8,9 +8,9 @@ use kit_shared::Shared;
 #[derive(Debug, Drop)]
 pub struct Raise {
     /// Its name.
-    pub name: Shared<Name>,
+    pub name: Shared<FullName>,
     /// The repository id that messages have for it.
-    pub id: Shared<Name>,
+    pub id: Shared<FullName>,
     /// Its members, as those of a struct.
     pub members: Shared<RaiseFields>,
 }

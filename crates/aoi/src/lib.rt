@@ -11,7 +11,7 @@ mod types;
 mod units;
 
 pub use faults::{NameErr, NameFault};
-pub use full_names::FullName;
+pub use full_names::{FullName, FullNames};
 pub use interfaces::{Interface, Interfaces, Operation, Operations, Raise, Raises};
 pub use raise_fields::RaiseFields;
 pub use soundness::{is_sound, unfolded};

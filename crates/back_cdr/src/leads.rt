@@ -145,7 +145,7 @@ fn reply_octets(
     if arm == 0 {
         answer(alloc, minor, order)
     } else {
-        user(alloc, minor, order, exception_of(bound, op, arm))
+        user(alloc, minor, order, exception_of(bound, op, arm).get())
     }
 }
 

@@ -6,7 +6,8 @@ ghost use Rattle.std.specs.Str.{bytes_eq};
 ghost use Rattle.back_cdr.specs.Offered.{IsListed, number_in};
 
 use crate::numbered::Numbered;
-use kit_base::{Name, NoMemory};
+use aoi::{FullName, FullNames};
+use kit_base::NoMemory;
 use kit_shared::{Shared, SharedNames};
 use std::alloc::Global;
 use std::marker::Model;
@@ -18,7 +19,7 @@ const LONGEST: usize = 128;
 /// each word of a name.
 #[derive(Drop)]
 pub(crate) struct Listing {
-    names: SharedNames,
+    names: FullNames,
     tree: Option<Numbered>,
 }
 
@@ -33,47 +34,47 @@ impl Model for Listing {
 }
 
 /// Whether a name is long.
-fn has_long(names: &[Shared<Name>]) -> bool {
+fn has_long(names: &[Shared<FullName>]) -> bool {
     for name in names {
-        if name.len() > LONGEST {
+        if name.get().is_longer(LONGEST) {
             return true;
         }
     }
     false
 }
 
-/// The same names.
-fn shared(alloc: Global, names: &[Shared<Name>]) -> Result<SharedNames, NoMemory>
+/// The same names, each in one piece.
+fn wholes(alloc: Global, names: &[Shared<FullName>]) -> Result<SharedNames, NoMemory>
     ensures { IfOk result (λ ns. ns ≡ names.now) }
 {
     let mut all = SharedNames::new(alloc);
     for name in names {
-        all.push(name.share()?)?;
+        all.push(Shared::new(alloc, name.get().whole(alloc)?)?)?;
     }
     Ok(all)
 }
 
 /// A tree of names, unless one is long.
-fn tree_of(alloc: Global, names: &[Shared<Name>]) -> Result<Option<Numbered>, NoMemory>
+fn tree_of(alloc: Global, names: &[Shared<FullName>]) -> Result<Option<Numbered>, NoMemory>
     requires { length names.now + 1 < 2 ^ 32 }
     ensures { IfOk result (λ tree. IsListed names.now tree) }
 {
     if has_long(names) {
         return Ok(None);
     }
-    let tree = Numbered::of(alloc, 1, shared(alloc, names)?)?;
+    let tree = Numbered::of(alloc, 1, wholes(alloc, names)?)?;
     Ok(Some(tree))
 }
 
 /// The place of the first of these names that is equal to this one, counted from 0.
-fn place_of(names: &[Shared<Name>], name: &[u8]) -> Option<u32>
+fn place_of(names: &[Shared<FullName>], name: &[u8]) -> Option<u32>
     requires { length names.now + 1 < 2 ^ 32 }
     ensures place { result ≡ position_from (bytes_eq name.now) 0 names.now }
     ensures few { IfSome result (λ n. n < length names.now) }
 {
     let mut place = 0;
     for other in names {
-        if name == other.as_slice() {
+        if other.get().is(name) {
             return Some(place);
         }
         place += 1;
@@ -82,7 +83,7 @@ fn place_of(names: &[Shared<Name>], name: &[u8]) -> Option<u32>
 }
 
 /// The number of the first of these names that is equal to this one.
-fn number_among(names: &[Shared<Name>], name: &[u8]) -> Option<u32>
+fn number_among(names: &[Shared<FullName>], name: &[u8]) -> Option<u32>
     requires { length names.now + 1 < 2 ^ 32 }
     ensures { result ≡ number_in (record { first = 1; names = names.now }) name.now }
 {
@@ -94,7 +95,7 @@ fn number_among(names: &[Shared<Name>], name: &[u8]) -> Option<u32>
 
 impl Listing {
     /// Names in order.
-    pub(crate) fn of(alloc: Global, names: SharedNames) -> Result<Listing, NoMemory>
+    pub(crate) fn of(alloc: Global, names: FullNames) -> Result<Listing, NoMemory>
         ensures { IfOk result (λ l. l ≡ record { first = 1; names = names }) }
     {
         if names.len() > 4_294_967_290 {

@@ -17,7 +17,7 @@ use crate::listing::Listing;
 use crate::numbered::{Numbered, demux_of};
 use crate::seek::laid;
 use crate::targets::operations_are_targets;
-use aoi::{Interface, Operation, Raise};
+use aoi::{FullNames, Interface, Operation, Raise};
 use demux::{Demux, WordName};
 use giop_head::{GiopRequest, read_request};
 use head_kit::{CallHead, CallTarget};
@@ -37,10 +37,10 @@ pub struct Names {
 }
 
 /// The repository ids of exceptions.
-fn words_of(alloc: Global, raises: &[Raise]) -> Result<SharedNames, NoMemory>
+fn words_of(alloc: Global, raises: &[Raise]) -> Result<FullNames, NoMemory>
     ensures { IfOk result (λ w. w ≡ ids_of raises.now) }
 {
-    let mut words = SharedNames::new(alloc);
+    let mut words = FullNames::new(alloc);
     for raise in raises {
         words.push(raise.id.share()?)?;
     }

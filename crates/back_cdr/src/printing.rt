@@ -1,11 +1,12 @@
 //! The octets of heads whose size is not set yet.
 
-ghost use Rattle.std.specs.Prelude.{◌≡◌, IfOk, length};
+ghost use Rattle.std.specs.Prelude.{◌≡◌, ◌++◌, IfOk, OnOk, length};
 ghost use Rattle.giop_head.specs.Items.{flag};
 ghost use Rattle.giop_head.specs.Printed as printed;
 ghost use Rattle.giop_head.specs.Printed.{answer_octets, begun_octets, header_octets, request_octets, status_octets, user_octets};
 ghost use Rattle.back_cdr.specs.Targets.{IsShort};
 
+use aoi::FullName;
 use cast_stub::Constant;
 use kit_base::{NoMemory, Octets};
 use kit_shared::Shared;
@@ -72,17 +73,33 @@ fn then_shared_sequence(
     Ok(octets)
 }
 
-/// A string, of which this is one more owner, after other octets.
-fn then_shared_string(
-    order: Order,
-    piece: &Shared<Octets>,
-    octets: Constant,
-) -> Result<Constant, NoMemory>
-    requires { IsShort piece.now }
-    ensures { IfOk result (λ o. o ≡ printed.then_string order piece.now octets) }
+/// The number of a full name's octets as an unsigned long.
+fn counted_full(name: &FullName) -> u32
+    requires { IsShort name.now }
+    ensures { result ≡ length name.now }
 {
-    let mut octets = then_long(order, counted(piece.as_slice()) + 1, octets)?;
-    octets.append_shared(piece)?;
+    let (prefix, own) = name.parts();
+    (prefix.len() + own.len()) as u32
+}
+
+/// Appends a full name, of whose prefix this is one more owner.
+fn append_full(octets: &mut Constant, name: &FullName) -> Result<(), NoMemory>
+    ensures { OnOk result (octets.new ≡ octets.old ++ name.now) }
+{
+    let (prefix, own) = name.pieces();
+    if let Some(prefix) = prefix {
+        octets.append_shared(prefix)?;
+    }
+    octets.append(own)
+}
+
+/// A full name as a string, of whose prefix this is one more owner, after other octets.
+fn then_full_string(order: Order, name: &FullName, octets: Constant) -> Result<Constant, NoMemory>
+    requires { IsShort name.now }
+    ensures { IfOk result (λ o. o ≡ printed.then_string order name.now octets) }
+{
+    let mut octets = then_long(order, counted_full(name) + 1, octets)?;
+    append_full(&mut octets, name)?;
     octets.append(&[0])?;
     Ok(octets)
 }
@@ -265,11 +282,11 @@ pub(crate) fn user(
     alloc: Global,
     minor: u8,
     order: Order,
-    exception: &Shared<Octets>,
+    exception: &FullName,
 ) -> Result<Constant, NoMemory>
     requires { IsShort exception.now }
     ensures { IfOk result (λ o. o ≡ user_octets minor order 0 exception.now) }
 {
     let octets = status(alloc, minor, order, 1)?;
-    then_shared_string(order, exception, octets)
+    then_full_string(order, exception, octets)
 }

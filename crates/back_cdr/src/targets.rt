@@ -7,8 +7,7 @@ ghost use Rattle.back_cdr.specs.Leads.{reply_lead};
 ghost use Rattle.back_cdr.specs.Targets as defs;
 ghost use Rattle.back_cdr.specs.Targets.{HasShortNames, IsCdr, no_target, target_in, target_of, targets};
 
-use aoi::{Interface, Operation, Raise};
-use kit_base::Name;
+use aoi::{FullName, Interface, Operation, Raise};
 use kit_shared::Shared;
 use pres::Bound;
 use wire_def::{Back, Order};
@@ -16,7 +15,7 @@ use wire_def::{Back, Order};
 /// The most octets of an id that is compared: so one comparison takes a bounded time.
 const MOST_COMPARED: usize = 16_384;
 
-/// The most octets of an id that are marked: its last ones, since ids of one module begin alike.
+/// The most octets of each piece of an id that are marked: the last ones, since ids of one module begin alike.
 const MOST_MARKED: usize = 32;
 
 /// The order of the messages that a back end sends.
@@ -75,7 +74,7 @@ pub(crate) fn operation_of(bound: &Bound, op: u32) -> (&Interface, &Operation)
 }
 
 /// The repository id of an exception, by its place from 1.
-fn id_at(raises: &[Raise], arm: u32) -> &Shared<Name>
+fn id_at(raises: &[Raise], arm: u32) -> &Shared<FullName>
     requires some { 0 < arm }
     requires there { arm ≤ length raises.now }
     ensures { result.now
@@ -85,7 +84,7 @@ fn id_at(raises: &[Raise], arm: u32) -> &Shared<Name>
 }
 
 /// The repository id of an operation's exception, by its place from 1.
-pub(crate) fn exception_of(bound: &Bound, op: u32, arm: u32) -> &Shared<Name>
+pub(crate) fn exception_of(bound: &Bound, op: u32, arm: u32) -> &Shared<FullName>
     requires cdr { IsCdr bound.now.back }
     requires op { op < length bound.now.ops }
     requires some { 0 < arm }
@@ -97,7 +96,7 @@ pub(crate) fn exception_of(bound: &Bound, op: u32, arm: u32) -> &Shared<Name>
 }
 
 /// The repository id of an operation's exception, by its place from 0, where there is one.
-fn raised_id(bound: &Bound, op: u32, place: usize) -> Option<&Shared<Name>>
+fn raised_id(bound: &Bound, op: u32, place: usize) -> Option<&Shared<FullName>>
     requires cdr { IsCdr bound.now.back }
     requires op { op < length bound.now.ops }
     ensures { IfSome result (λ id. id.now ≡ slice_index_or (target_of bound.now op).ids place []) }
@@ -109,11 +108,14 @@ fn raised_id(bound: &Bound, op: u32, place: usize) -> Option<&Shared<Name>>
     }
 }
 
-/// Whether two ids are known to be the same: one that is longer than those that are compared counts as another.
-fn are_one_id(id: &Shared<Name>, other: &Shared<Name>) -> bool
+/// Whether two ids are known to be the same, piece by piece: one that is longer than those that are compared counts
+/// as another.
+fn are_one_id(id: &Shared<FullName>, other: &Shared<FullName>) -> bool
     ensures { result ≡ true → id.now ≡ other.now }
 {
-    id.len() <= MOST_COMPARED && id.as_slice() == other.as_slice()
+    let (prefix, own) = id.get().parts();
+    let (other_prefix, other_own) = other.get().parts();
+    !id.get().is_longer(MOST_COMPARED) && prefix == other_prefix && own == other_own
 }
 
 /// Whether the exceptions of two operations with a place from 0 are known to have one id.
@@ -146,13 +148,19 @@ pub fn have_one_lead(bound: &Bound, op: u32, p: u32, arm: u32) -> bool
     }
 }
 
-/// A number of some octets that others seldom have. It proves nothing.
-fn mark_of(octets: &[u8]) -> u32 {
-    let mut mark = 0u32;
+/// A number of some octets after those of another number, which others seldom have. It proves nothing.
+fn mark_after(before: u32, octets: &[u8]) -> u32 {
+    let mut mark = before;
     for at in octets.len().saturating_sub(MOST_MARKED)..octets.len() {
         mark = mark.wrapping_mul(31).wrapping_add(octets[at] as u32);
     }
     mark
+}
+
+/// A number of an id that others seldom have. It proves nothing.
+fn mark_of(id: &FullName) -> u32 {
+    let (prefix, own) = id.parts();
+    mark_after(mark_after(0, prefix), own)
 }
 
 /// A number of the head of an operation's replies with an arm, which heads that differ seldom have. It proves nothing.
@@ -164,7 +172,7 @@ pub fn lead_mark(bound: &Bound, op: u32, arm: u32) -> u32
         return 0;
     }
     match raised_id(bound, op, arm as usize - 1) {
-        Some(id) => mark_of(id.as_slice()),
+        Some(id) => mark_of(id.get()),
         None => 0,
     }
 }

@@ -1,7 +1,8 @@
 //! Interfaces over back ends that no command has yet, or with what no front end reads yet.
 
 use aoi::{
-    Field, Fields, Interface, Operation, Operations, Raise, RaiseFields, Raises, Ty, Unit, is_sound,
+    Field, Fields, FullName, Interface, Operation, Operations, Raise, RaiseFields, Raises, Ty,
+    Unit, is_sound,
 };
 use check_rows::Bad;
 use kit_base::{Name, NoMemory};
@@ -21,6 +22,10 @@ fn shared_name(alloc: Global, text: &[u8]) -> Result<Shared<Name>, NoMemory> {
     Shared::new(alloc, name(alloc, text)?)
 }
 
+fn full_name(alloc: Global, text: &[u8]) -> Result<Shared<FullName>, NoMemory> {
+    Shared::new(alloc, FullName::of(name(alloc, text)?))
+}
+
 fn one_field(alloc: Global, text: &[u8], ty: Ty) -> Result<Fields, NoMemory> {
     let mut fields = Fields::new(alloc);
     let name = name(alloc, text)?;
@@ -33,8 +38,8 @@ fn exception(alloc: Global) -> Result<Raises, NoMemory> {
     let mut raises = Raises::new(alloc);
     let why = one_field(alloc, b"why", Ty::Text(Count::Any))?;
     raises.push(Raise {
-        name: shared_name(alloc, b"E")?,
-        id: shared_name(alloc, b"IDL:E:1.0")?,
+        name: full_name(alloc, b"E")?,
+        id: full_name(alloc, b"IDL:E:1.0")?,
         members: Shared::new(alloc, RaiseFields::new(why))?,
     })?;
     Ok(raises)

@@ -168,9 +168,11 @@ fn put_operation(alloc: Global, out: &mut String, o: &Operation) -> Result<(), B
     })?;
     for e in o.raises.as_slice() {
         out.push_str(" ")?;
-        out.push_str(shown(alloc, e.name.as_slice())?.as_str())?;
+        let name = e.name.get().whole(alloc)?;
+        out.push_str(shown(alloc, name.as_slice())?.as_str())?;
         out.push_str("=")?;
-        out.push_str(shown(alloc, e.id.as_slice())?.as_str())?;
+        let id = e.id.get().whole(alloc)?;
+        out.push_str(shown(alloc, id.as_slice())?.as_str())?;
         out.push_str("{")?;
         put_fields(alloc, out, e.members.get().as_slice())?;
         out.push_str("}")?;

@@ -8,7 +8,7 @@ use aoi::Raise;
 use kit_base::NoMemory;
 use mint::node::{Node, NodeIds, arm_of};
 use mint::table::NodeId;
-use pres::{Bound, Op};
+use pres::{Bound, Op, is_full_text_of};
 use serde_json::{Map, Value as Json};
 use std::alloc::Global;
 use wire_def::Back;
@@ -237,7 +237,7 @@ fn raised_misfit(
 /// The number of the exception of a name, from 1.
 fn raise_number(raises: &[Raise], text: &str) -> Option<i128> {
     for (i, raise) in raises.iter().enumerate() {
-        if is_named(raise.name.as_slice(), text) {
+        if is_full_text_of(raise.name.get(), text) {
             return Some((i as i128).saturating_add(1));
         }
     }
@@ -273,7 +273,8 @@ fn unlisted_reported(alloc: Global, raises: &[Raise], raise: &str) -> Result<Str
     let mut between = " ";
     for listed in &raises[..raises.len().min(LISTED)] {
         out.push_str(between)?;
-        out.push_str(shown(alloc, listed.name.as_slice())?.as_str())?;
+        let name = listed.name.get().whole(alloc)?;
+        out.push_str(shown(alloc, name.as_slice())?.as_str())?;
         between = ", ";
     }
     Ok(out)

@@ -33,7 +33,7 @@ pub(crate) fn raise_of(bound: &Bound, op: u32, id: &[u8]) -> Option<u32> {
     let mut number = 0u32;
     for raise in raises_of(bound, op) {
         number = number.saturating_add(1);
-        if raise.id.as_slice() == id {
+        if raise.id.get().is(id) {
             return Some(number);
         }
     }

@@ -7,7 +7,7 @@ ghost use Rattle.flick_texts.specs.Show.{oneway_text, operation_head, operation_
 ghost use Rattle.flick_texts.specs.TypeText.{names_of, trees_of};
 
 use crate::types::{put_parameters, put_type};
-use crate::words::{put, put_numbered};
+use crate::words::{put, put_name, put_numbered};
 use aoi::{FullName, Operation, Raise, Ty};
 use kit_base::{NoMemory, Octets};
 
@@ -57,7 +57,7 @@ fn put_raises(out: &mut Octets, raises: &[Raise]) -> Result<(), NoMemory>
     let mut mark: &[u8] = b" raises ";
     for raise in raises {
         put(out, mark)?;
-        put(out, raise.name.as_slice())?;
+        put_name(out, raise.name.get())?;
         mark = b", ";
     }
     Ok(())

@@ -1,101 +1,82 @@
--- The order of fields by their keys, by induction on the order and on the names.
-use Rattle.std.proofs.Common.{◌≡◌, ℕ, suc, ◌<◌, ◌≤◌, ◌+◌, List, [], ◌∷◌, ◌++◌, length, get_or, take, drop, insert, Less, Greater, nat_cmp, refl, sym, ap, ◌∙◌, arith, add-one, take_all}
-use Rattle.std.proofs.Math.Seq.{drop-cons}
-use Rattle.std.proofs.lemmas.List.{drop_all, take_more}
+-- The members of fields at the places of their order, by induction on the order and on the names.
+use Rattle.std.proofs.Common.{◌≡◌, ℕ, zero, suc, ◌<◌, ◌+◌, List, [], ◌∷◌, length, get_or, drop, nat_cmp, Option, Some, None, option_map, option_and_then, Ordering, Less, Equal, Greater, refl, sym, ap, ◌∙◌, arith}
+use Rattle.std.specs.Ordering.{match_ordering}
 use Rattle.std.specs.Cmp.Lexicographic.{slice_cmp}
 use Rattle.mint.specs.declared.value.Value.{Value, Void}
 use Rattle.mint.specs.Values.{seen, all_seen}
 use Rattle.pres.specs.Faces.{Face, at, parts_at}
-use Rattle.serde_json.specs.Data.{Data, Members, member, put}
+use Rattle.pres.specs.KeyOrder.{key_at, put_place, order_from, key_order}
+use Rattle.serde_json.specs.Data.{Data, Members, no_members, member, put}
 use Rattle.json_shape.specs.Texts.{text_of}
 use Rattle.json_shape.specs.Written.{json_of, by_name_json}
-use Rattle.json_shape.specs.Printed.{key_at, members_at, put_from}
+use Rattle.json_shape.specs.Printed.{members_at}
 
--- members at places, before others
-abbrev pub before_at : List (List ℕ) → (ℕ → Data) → List ℕ → Members → Members
-before_at names tree [] ms = ms
-before_at names tree (i ∷ is) ms = member (key_at names i) (tree i) (before_at names tree is ms)
+-- the members of names, the first of which has place k, each where the order of keys has it
+abbrev pub put_from : ℕ → List (List ℕ) → (ℕ → Data) → Members
+put_from k [] tree = no_members
+put_from k (n ∷ ns) tree = put (text_of n) (tree k) (put_from (suc k) ns tree)
 
-before_all : (names : List (List ℕ)) (tree : ℕ → Data) (is js : List ℕ)
-    → before_at names tree is (members_at names tree js) ≡ members_at names tree (is ++ js)
-before_all names tree [] js = refl
-before_all names tree (i ∷ is) js = ap (member (key_at names i) (tree i)) (before_all names tree is js)
+-- a member of those that are put later is before them
+put_later : (names : List (List ℕ)) (tree : ℕ → Data) (i j : ℕ) (js new : List ℕ) (places : Option (List ℕ))
+    → put_place names i js ≡ places
+    → ((rest : List ℕ) → put_place names i js ≡ Some rest
+    → put (key_at names i) (tree i) (members_at names tree js) ≡ members_at names tree rest)
+    → option_map (λ (is : List ℕ). j ∷ is) places ≡ Some new
+    → member (key_at names j) (tree j) (put (key_at names i) (tree i) (members_at names tree js)) ≡ members_at names tree new
+put_later names tree i j js new None e deeper h = absurd cc
+put_later names tree i j js new (Some rest) e deeper h =
+    let same : j ∷ rest ≡ new = cc in
+    ap (member (key_at names j) (tree j)) (deeper rest e) ∙ ap (members_at names tree) same
 
-before_more : (names : List (List ℕ)) (tree : ℕ → Data) (is : List ℕ) (k : ℕ) (ms : Members)
-    → before_at names tree (is ++ k ∷ []) ms ≡ before_at names tree is (member (key_at names k) (tree k) ms)
-before_more names tree [] k ms = refl
-before_more names tree (i ∷ is) k ms = ap (member (key_at names i) (tree i)) (before_more names tree is k ms)
+-- the member of a place is put where the order has the place
+put_at : (names : List (List ℕ)) (tree : ℕ → Data) (i : ℕ) (order new : List ℕ) → put_place names i order ≡ Some new
+    → put (key_at names i) (tree i) (members_at names tree order) ≡ members_at names tree new
+put_at names tree i [] new h =
+    let same : i ∷ [] ≡ new = cc in
+    ap (members_at names tree) same
+put_at names tree i (j ∷ js) new h =
+    by (slice_cmp nat_cmp (key_at names i) (key_at names j)) h (λ rest. put_at names tree i js rest) where
+      by : (o : Ordering) → match_ordering o (Some (i ∷ j ∷ js)) None (option_map (λ (is : List ℕ). j ∷ is) (put_place names i js))
+          ≡ Some new
+          → ((rest : List ℕ) → put_place names i js ≡ Some rest
+          → put (key_at names i) (tree i) (members_at names tree js) ≡ members_at names tree rest)
+          → match_ordering o (members_at names tree (i ∷ j ∷ js)) (member (key_at names j) (tree i) (members_at names tree js))
+          (member (key_at names j) (tree j) (put (key_at names i) (tree i) (members_at names tree js))) ≡ members_at names tree new
+      by Less e deeper =
+          let same : i ∷ j ∷ js ≡ new = cc in
+          ap (members_at names tree) same
+      by Equal e deeper = absurd cc
+      by Greater e deeper = put_later names tree i j js new (put_place names i js) refl deeper e
 
-put_greater : (k l : List ℕ) (d e : Data) (ms : Members) → slice_cmp nat_cmp k l ≡ Greater
-    → put k d (member l e ms) ≡ member l e (put k d ms)
-put_greater k l d e ms h = rw h refl
+-- the first of the names from a place on, and those after it
+split_at : (names : List (List ℕ)) (k : ℕ) (n : List ℕ) (ns : List (List ℕ)) → drop k names ≡ n ∷ ns
+    → (n ≡ get_or names k []) × (drop (suc k) names ≡ ns)
+split_at [] zero n ns h = absurd cc
+split_at [] (suc k) n ns h = absurd cc
+split_at (m ∷ names) zero n ns h = (cc, cc)
+split_at (m ∷ names) (suc k) n ns h = split_at names k n ns h
 
-put_less : (k l : List ℕ) (d e : Data) (ms : Members) → slice_cmp nat_cmp k l ≡ Less
-    → put k d (member l e ms) ≡ member k d (member l e ms)
-put_less k l d e ms h = rw h refl
+-- the members of names, whose order is that of the places
+order_at : (names : List (List ℕ)) (tree : ℕ → Data) (k : ℕ) (ns : List (List ℕ)) (order : List ℕ) → drop k names ≡ ns
+    → order_from names k ns ≡ Some order → put_from k ns tree ≡ members_at names tree order
+order_at names tree k [] order is h =
+    let same : [] ≡ order = cc in
+    ap (members_at names tree) same
+order_at names tree k (n ∷ ns) order is h =
+    by (order_from names (suc k) ns) h (λ rest. order_at names tree (suc k) ns rest (split_at names k n ns is).1) where
+      by : (o : Option (List ℕ)) → option_and_then (put_place names k) o ≡ Some order
+          → ((rest : List ℕ) → o ≡ Some rest → put_from (suc k) ns tree ≡ members_at names tree rest)
+          → put (text_of n) (tree k) (put_from (suc k) ns tree) ≡ members_at names tree order
+      by None e later = absurd cc
+      by (Some rest) e later =
+          ap (λ (m : List ℕ). put (text_of m) (tree k) (put_from (suc k) ns tree)) ((split_at names k n ns is).0)
+          ∙ ap (put (key_at names k) (tree k)) (later rest refl)
+          ∙ put_at names tree k rest order e
 
--- the key of a place is above those of the first p places of an order
-abbrev pub Placing : List (List ℕ) → ℕ → List ℕ → ℕ → Type 0
-Placing names i order p = (tree : ℕ → Data)
-    → put (key_at names i) (tree i) (members_at names tree order)
-    ≡ before_at names tree (take p order) (put (key_at names i) (tree i) (members_at names tree (drop p order)))
-
--- it is above one more
-pub placing_more : (names : List (List ℕ)) (i : ℕ) (order : List ℕ) (p : ℕ) → p < length order
-    → slice_cmp nat_cmp (key_at names i) (key_at names (get_or order p 0)) ≡ Greater → Placing names i order p
-    → Placing names i order (p + 1)
-placing_more names i order p h above before tree =
-    let next = put_greater (key_at names i) (key_at names (get_or order p 0)) (tree i) (tree (get_or order p 0))
-    (members_at names tree (drop (suc p) order)) above in
-    let was = before tree in
-    rw (take_more order p 0 h, before_more names tree (take p order) (get_or order p 0), add-one)
-    (rw (drop-cons order p 0 h, next) at was)
-
--- it is below the next one
-pub placing_here : (names : List (List ℕ)) (i : ℕ) (order : List ℕ) (p : ℕ) → p < length order
-    → slice_cmp nat_cmp (key_at names i) (key_at names (get_or order p 0)) ≡ Less → Placing names i order p
-    → (tree : ℕ → Data) → put (key_at names i) (tree i) (members_at names tree order) ≡ members_at names tree (insert order p i)
-placing_here names i order p h below before tree =
-    let k : ℕ = get_or order p 0 in
-    let rest : List ℕ = drop (suc p) order in
-    let cons : drop p order ≡ k ∷ rest = drop-cons order p 0 h in
-    let next = put_less (key_at names i) (key_at names k) (tree i) (tree k) (members_at names tree rest) below in
-    before tree
-    ∙ ap (λ (is : List ℕ). before_at names tree (take p order) (put (key_at names i) (tree i) (members_at names tree is))) cons
-    ∙ ap (before_at names tree (take p order)) next
-    ∙ ap (λ (is : List ℕ). before_at names tree (take p order) (members_at names tree (i ∷ is))) (sym cons)
-    ∙ before_all names tree (take p order) (i ∷ drop p order)
-
--- it is above all
-pub placing_last : (names : List (List ℕ)) (i : ℕ) (order : List ℕ) (p : ℕ) → length order ≤ p → Placing names i order p
-    → (tree : ℕ → Data)
-    → put (key_at names i) (tree i) (members_at names tree order) ≡ members_at names tree (insert order (length order) i)
-placing_last names i order p h before tree =
-    let all : take p order ≡ take (length order) order = take_all p order h ∙ sym (take_all (length order) order (omega arith)) in
-    let none : drop p order ≡ [] = drop_all p order h in
-    let end : [] ≡ drop (length order) order = sym (drop_all (length order) order (omega arith)) in
-    before tree
-    ∙ ap (λ (is : List ℕ). before_at names tree is (put (key_at names i) (tree i) (members_at names tree (drop p order)))) all
-    ∙ ap (λ (is : List ℕ). before_at names tree (take (length order) order) (put (key_at names i) (tree i) (members_at names tree is))) none
-    ∙ ap (λ (is : List ℕ). before_at names tree (take (length order) order) (members_at names tree (i ∷ is))) end
-    ∙ before_all names tree (take (length order) order) (i ∷ drop (length order) order)
-
--- ---- the order of all names
-
--- the places from k on
-abbrev pub OrderFrom : List (List ℕ) → ℕ → List ℕ → Type 0
-OrderFrom names k order = (tree : ℕ → Data) → put_from k (drop k names) tree ≡ members_at names tree order
-
-pub order_none : (names : List (List ℕ)) → OrderFrom names (length names) []
-order_none names tree = ap (λ (ns : List (List ℕ)). put_from (length names) ns tree) (drop_all (length names) names (omega arith))
-
-pub order_more : (names : List (List ℕ)) (k : ℕ) (order new : List ℕ) → k < length names → OrderFrom names (k + 1) order
-    → ((tree : ℕ → Data) → put (key_at names k) (tree k) (members_at names tree order) ≡ members_at names tree new)
-    → OrderFrom names k new
-order_more names k order new h before more tree =
-    let was : put_from (suc k) (drop (suc k) names) tree ≡ members_at names tree order = rw add-one at (before tree) in
-    ap (λ (ns : List (List ℕ)). put_from k ns tree) (drop-cons names k [] h)
-    ∙ ap (put (key_at names k) (tree k)) was ∙ more tree
+-- the members of all names are at the places of their order
+pub order_is : (names : List (List ℕ)) (tree : ℕ → Data) (order : List ℕ) → key_order names ≡ Some order
+    → put_from 0 names tree ≡ members_at names tree order
+order_is names tree order h = order_at names tree 0 names order refl h
 
 -- ---- the members of a value's fields
 
@@ -124,5 +105,3 @@ pub fields_put : (fs : List Face) (names : List (List ℕ)) (ids : List ℕ) (vs
     → by_name_json (parts_at fs names ids) (all_seen vs) ≡ put_from 0 names (trees_at fs ids vs)
 fields_put fs names ids vs h l =
     fields_from fs names ids vs 0 (trees_at fs ids vs) h l (λ j m. let e : 0 + j ≡ j = omega arith in ap (trees_at fs ids vs) e)
-
-pub ruleset ordering = (order_none, order_more)

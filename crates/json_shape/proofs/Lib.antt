@@ -42,7 +42,7 @@ pub mod Texted
 pub mod Homes
 -- * Tokens that are written one after the other
 pub mod Adding
--- * The order of fields by their keys, by induction on the order and on the names
+-- * The members of fields at the places of their order, by induction on the order and on the names
 pub mod FieldPlaces
 -- * The tokens of a request record and the text that they are
 pub mod RecordTokens

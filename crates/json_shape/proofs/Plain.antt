@@ -119,6 +119,17 @@ not_cut name octets text e other more is =
     let test : false ≡ true = other ∙ (bytes_eq-Decides (take (length name) octets) name).1 same in
     cc
 
+ascii_after : (front more : List ℕ) → IsAscii (front ++ more) → IsAscii more
+ascii_after [] more h = h
+ascii_after (c ∷ front) more h = ascii_after front more (λ i. h (suc i))
+
+-- what stands there is ASCII
+pub some_ascii : (name text : List ℕ) (r : Option (Bor (List ℕ))) → IsAscii text
+    → IfSome r (λ rest. text ≡ name ++ (codes "." ++ rest.now)) → IfSome r (λ rest. IsAscii rest.now)
+some_ascii name text None h e = tt
+some_ascii name text (Some rest) h e =
+    ascii_after (codes ".") rest.now (ascii_after name (codes "." ++ rest.now) (subst IsAscii e h))
+
 pub some_in_plain : (name text : List ℕ) (r : Option (Bor (List ℕ))) → IsAscii text
     → IfSome r (λ rest. text ≡ name ++ (codes "." ++ rest.now))
     → IfSome r (λ rest. (o : List ℕ) → bytes_eq (text_of (name ++ (codes "." ++ o))) text ≡ bytes_eq (text_of o) rest.now)

@@ -1,13 +1,14 @@
 -- What is written of a tree, token by token.
-use Rattle.std.specs.Prelude.{◌≡◌, ℕ, suc, List, [], ◌∷◌, ◌++◌, get_or, decimal, codes}
+use Rattle.std.specs.Prelude.{◌≡◌, ℕ, List, [], ◌∷◌, ◌++◌, decimal, codes}
 use Rattle.json.specs.Token.{Token, key, number, string}
 use Rattle.json.specs.Tree.{json_tokens, items_tokens, members_tokens}
 use Rattle.json.specs.Written.{Written}
 use Rattle.wire_def.specs.declared.encoding.Back.{Back}
 use Rattle.wire_def.specs.declared.encoding.Back.TheVariants as back
 use Rattle.wire_def.specs.declared.head.Head.{Head}
-use Rattle.serde_json.specs.Data.{Data, Items, Members, no_members, member, put}
+use Rattle.serde_json.specs.Data.{Data, Items, Members, no_members, member}
 use Rattle.serde_json.specs.Written.{outline, items_outline, members_outline}
+use Rattle.pres.specs.KeyOrder.{key_at}
 use Rattle.json_shape.specs.Texts.{text_of}
 
 -- the tokens of a tree
@@ -29,23 +30,10 @@ pub record Adds (old new : Written) (ts : List Token) : Type 0 where
 
 -- ---- members by an order of their places
 
--- the member of a place, by the names of all
-abbrev pub key_at : List (List ℕ) → ℕ → List ℕ
-key_at names i = text_of (get_or names i [])
-
 -- the members at places
 abbrev pub members_at : List (List ℕ) → (ℕ → Data) → List ℕ → Members
 members_at names tree [] = no_members
 members_at names tree (i ∷ is) = member (key_at names i) (tree i) (members_at names tree is)
-
--- the members of names, the first of which has place k, each where the order of keys has it
-abbrev pub put_from : ℕ → List (List ℕ) → (ℕ → Data) → Members
-put_from k [] tree = no_members
-put_from k (n ∷ ns) tree = put (text_of n) (tree k) (put_from (suc k) ns tree)
-
--- the places of names in the order of their keys, whatever the trees
-abbrev pub IsOrder : List (List ℕ) → List ℕ → Type 0
-IsOrder names order = (tree : ℕ → Data) → put_from 0 names tree ≡ members_at names tree order
 
 -- ---- the numbers of a head
 

@@ -64,9 +64,11 @@ fn after_wide_name<'a>(name: &[u8], text: &'a str) -> Option<&'a str>
     }
 }
 
-/// What stands in a string after a name and a dot. If the string is known to be ASCII, octets are compared.
+/// What stands in a string after a name and a dot. If the string is known to be ASCII, octets are compared, and what
+/// stands there is ASCII.
 pub(crate) fn after_name<'a>(name: &[u8], text: &'a str, plain: bool) -> Option<&'a str>
     requires { plain ≡ true → IsAscii text.now }
+    ensures plain { plain ≡ true → IfSome result (λ rest. IsAscii rest.now) }
     ensures some { IfSome result (λ rest. (o : List ℕ)
         → bytes_eq (text_of (name.now ++ (codes "." ++ o))) text.now ≡ bytes_eq (text_of o) rest.now) }
     ensures none { IfNone result

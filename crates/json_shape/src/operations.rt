@@ -15,7 +15,7 @@ ghost use Rattle.json_shape.specs.Texts.{text_of};
 
 use crate::names::{after_name, is_name};
 use aoi::{Interface, Operation, Raise};
-use kit_base::{NoMemory, Octets};
+use kit_base::{Name, NoMemory, Octets};
 use pres::{Bound, Op};
 use std::alloc::Global;
 use wire_def::Back;
@@ -32,11 +32,11 @@ fn interface_name(interfaces: &[Interface], k: u32) -> &[u8]
 }
 
 /// The place of the first operation whose own name a string is.
-fn own_place(ops: &[Op], text: &str) -> Option<usize>
+fn own_place(ops: &[Op], text: &str, plain: bool) -> Option<usize>
+    requires { plain ≡ true → IsAscii text.now }
     ensures place { result ≡ position_from (λ (o : OpRecord). bytes_eq (text_of o.name) text.now) 0 ops.now }
     ensures within { IfSome result (λ i. i < length ops.now) }
 {
-    let plain = text.is_ascii();
     for (i, op) in ops.iter().enumerate() {
         if is_name(op.name.as_slice(), text, plain) {
             return Some(i);
@@ -53,7 +53,7 @@ fn place_in(name: &[u8], ops: &[Op], text: &str, plain: bool) -> Option<usize>
     ensures within { IfSome result (λ i. i < length ops.now) }
 {
     match after_name(name, text, plain) {
-        Some(rest) => own_place(ops, rest),
+        Some(rest) => own_place(ops, rest, plain),
         None => None,
     }
 }
@@ -87,8 +87,13 @@ fn count_of(back: Back, interface: &Interface, k: usize, ops: &[Op]) -> usize
 pub fn dotted(alloc: Global, interfaces: &[Interface], op: &Op) -> Result<Octets, NoMemory>
     ensures { IfOk result (λ o. o ≡ dotted (map plain_interface interfaces.now) op.now) }
 {
-    let mut name = Octets::new(alloc);
-    name.append(interface_name(interfaces, op.interface))?;
+    let interface = interface_name(interfaces, op.interface);
+    let room = interface
+        .len()
+        .saturating_add(op.name.len())
+        .saturating_add(1);
+    let mut name = Octets::with_room(alloc, room)?;
+    name.append(interface)?;
     name.append(b".")?;
     name.append(op.name.as_slice())?;
     Ok(name)
@@ -179,13 +184,16 @@ pub(crate) fn raises(bound: &Bound, k: u32) -> &[Raise]
     }
 }
 
-/// The name of the exception at a place.
+/// The name of the exception at a place, whole, for the line that has it.
 #[tactic(auto, using(crate::proofs::Sources::lists))]
-pub(crate) fn raise_name(raises: &[Raise], k: usize) -> &[u8]
-    ensures { result.now ≡ raise_name (map plain_raise raises.now) k }
+pub(crate) fn raise_name(alloc: Global, raises: &[Raise], k: usize) -> Result<Name, NoMemory>
+    ensures { IfOk result (λ name. name ≡ raise_name (map plain_raise raises.now) k) }
 {
     match raises.get(k) {
-        Some(raise) => raise.name.as_slice(),
-        None => &[],
+        Some(raise) => {
+            let name = raise.name.get().whole(alloc)?;
+            Ok(name)
+        }
+        None => Ok(Name::new(alloc)),
     }
 }

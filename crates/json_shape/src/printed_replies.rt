@@ -290,7 +290,7 @@ fn put_raised(
     print(alloc, bound, item, inner, out)?;
     put_name(alloc, name, out)?;
     out.key("raise")?;
-    put_string(alloc, raise_name(raises, k), out)?;
+    put_string(alloc, raise_name(alloc, raises, k)?.as_slice(), out)?;
     put_after(bound.back(), head, out)?;
     out.end_object()?;
     Ok(())

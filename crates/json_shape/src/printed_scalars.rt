@@ -1,11 +1,11 @@
-//! Numbers, items, texts and rows, written as JSON.
+//! Null, numbers, items, texts and rows, written as JSON.
 
 ghost use Rattle.std.specs.Prelude.{◌≡◌, [], ◌∷◌, true, OnOk};
 ghost use Rattle.hex.specs.Hex.{encode_lower};
-ghost use Rattle.json.specs.Token.{boolean, string as string_token};
+ghost use Rattle.json.specs.Token.{boolean, null as null_token, string as string_token};
 ghost use Rattle.mint.specs.Kinds.{in_range};
 ghost use Rattle.pres.specs.Faces.{items_in, sign_of, item};
-ghost use Rattle.serde_json.specs.Data.{array, number};
+ghost use Rattle.serde_json.specs.Data.{array, no_items, number};
 ghost use Rattle.serde_json.specs.Find.{of_integer};
 ghost use Rattle.json_shape.specs.Texts.{text_of};
 ghost use Rattle.json_shape.specs.Written.{each_json, letters, number_json, sign_json, row_json};
@@ -19,6 +19,24 @@ use mint::node::Tag;
 use mint::row::Row;
 use pres::{ItemTable, Shape};
 use std::alloc::Global;
+
+/// Writes null.
+pub(crate) fn put_null(out: &mut Writer) -> Result<(), Halt>
+    ensures { OnOk result (Adds out.old out.new (null_token ∷ [])) }
+{
+    out.token(Token::Null)?;
+    Ok(())
+}
+
+/// Writes an array without items.
+#[tactic(auto, using(crate::proofs::Adding::adding))]
+pub(crate) fn put_nothing(out: &mut Writer) -> Result<(), Halt>
+    ensures { OnOk result (Adds out.old out.new (tokens_of (array no_items))) }
+{
+    out.begin_array()?;
+    out.end_array()?;
+    Ok(())
+}
 
 /// Writes the string of octets.
 pub(crate) fn put_string(alloc: Global, octets: &[u8], out: &mut Writer) -> Result<(), Halt>

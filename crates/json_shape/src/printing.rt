@@ -1,19 +1,19 @@
 //! Values, written as JSON straight from their types, without a tree.
 
-ghost use Rattle.std.specs.Prelude.{◌≡◌, ◌<◌, [], ◌∷◌, length, OnOk};
-ghost use Rattle.json.specs.Token.{null as null_token};
+ghost use Rattle.std.specs.Prelude.{◌≡◌, ◌<◌, [], length, Some, OnOk};
 ghost use Rattle.mint.specs.Types.{AreBelow, ArmsBelow, IsBelow};
 ghost use Rattle.mint.specs.Values.{seen, all_seen, group};
 ghost use Rattle.pres.specs.Faces.{faces, face_at, parts_at, arms_at, group_face, sign_of, members};
+ghost use Rattle.pres.specs.KeyOrder.{key_order};
 ghost use Rattle.pres.specs.Named.{IsGroupShape};
 ghost use Rattle.serde_json.specs.Data.{array, object, item as one_item, no_items};
 ghost use Rattle.json_shape.specs.Written.{json_of, items_json, in_order_json, by_name_json, after_json, arm_json, sign_json};
-ghost use Rattle.json_shape.specs.Printed.{tokens_of, Adds, IsOrder};
+ghost use Rattle.json_shape.specs.Printed.{tokens_of, Adds};
 
 use crate::errors::Halt;
 use crate::field_order::order_of;
-use crate::printed_scalars::{put_item, put_number, put_row, put_sign};
-use json::{Token, Writer};
+use crate::printed_scalars::{put_item, put_nothing, put_null, put_number, put_row, put_sign};
+use json::Writer;
 use mint::node::{Arms, Node, NodeIds, Tag, arm_of};
 use mint::table::NodeId;
 use mint::value::{Value, Values};
@@ -73,24 +73,6 @@ pub(crate) fn print(
     }
 }
 
-/// Writes null.
-fn put_null(out: &mut Writer) -> Result<(), Halt>
-    ensures { OnOk result (Adds out.old out.new (null_token ∷ [])) }
-{
-    out.token(Token::Null)?;
-    Ok(())
-}
-
-/// Writes an array without items.
-#[tactic(auto, using(crate::proofs::Adding::adding))]
-fn put_nothing(out: &mut Writer) -> Result<(), Halt>
-    ensures { OnOk result (Adds out.old out.new (tokens_of (array no_items))) }
-{
-    out.begin_array()?;
-    out.end_array()?;
-    Ok(())
-}
-
 /// Writes an array of one item.
 #[cycle(print)]
 #[tactic(auto, using(crate::proofs::Adding::adding))]
@@ -133,12 +115,34 @@ fn group(
         (group (all_seen values.now))))) }
 {
     match shape {
-        Shape::FieldNames(names) => {
-            let order = order_of(alloc, names)?;
-            by_name(alloc, bound, id, ids, names, order.as_slice(), values, out)
-        }
+        Shape::FieldNames(names) => named(alloc, bound, id, ids, names, values, out),
         _ => in_order(alloc, bound, id, ids.as_slice(), values.as_slice(), out),
     }
+}
+
+/// Writes a struct as an object. Where its names keep no order, that is made.
+#[cycle(print)]
+#[tactic(auto, using(crate::proofs::Adding::adding))]
+fn named(
+    alloc: Global,
+    bound: &Bound,
+    id: NodeId,
+    ids: &NodeIds,
+    names: &FieldTable,
+    values: &Values,
+    out: &mut Writer,
+) -> Result<(), Halt>
+    requires id { id < length bound.now.nodes }
+    requires below { AreBelow id ids.now }
+    requires named { length names.now ≡ length ids.now }
+    ensures { OnOk result (Adds out.old out.new (tokens_of (object (by_name_json
+        (parts_at (faces bound.now.nodes bound.now.shapes) names.now ids.now) (all_seen values.now))))) }
+{
+    if let Some(order) = names.order() {
+        return by_name(alloc, bound, id, ids, names, order, values, out);
+    }
+    let order = order_of(alloc, names)?;
+    by_name(alloc, bound, id, ids, names, order.as_slice(), values, out)
 }
 
 /// Writes the fields by their names, in the order of their keys.
@@ -150,14 +154,14 @@ fn by_name(
     id: NodeId,
     ids: &NodeIds,
     names: &FieldTable,
-    order: &[usize],
+    order: &[u8],
     values: &Values,
     out: &mut Writer,
 ) -> Result<(), Halt>
     requires id { id < length bound.now.nodes }
     requires below { AreBelow id ids.now }
     requires named { length names.now ≡ length ids.now }
-    requires order { IsOrder names.now order.now }
+    requires order { key_order names.now ≡ Some order.now }
     ensures { OnOk result (Adds out.old out.new (tokens_of (object (by_name_json
         (parts_at (faces bound.now.nodes bound.now.shapes) names.now ids.now) (all_seen values.now))))) }
 {
@@ -168,11 +172,12 @@ fn by_name(
     }
     out.begin_object()?;
     for i in order {
-        if *i >= ids.len() {
+        let i = usize::from(*i);
+        if i >= ids.len() {
             return Err(Halt::Fallback);
         }
-        out.key(names.text(*i))?;
-        print(alloc, bound, ids[*i], &values[*i], out)?;
+        out.key(names.text(i))?;
+        print(alloc, bound, ids[i], &values[i], out)?;
     }
     out.end_object()?;
     Ok(())
@@ -202,7 +207,7 @@ pub(crate) fn in_order(
     Ok(())
 }
 
-/// Writes a list. The order of the fields of its structs is made once.
+/// Writes a list. What its structs are is looked up once.
 #[cycle(print)]
 #[tactic(auto, using(crate::proofs::Adding::adding))]
 fn items(
@@ -253,7 +258,7 @@ fn each(
     Ok(())
 }
 
-/// Writes structs, for all of which the order of their fields is made once.
+/// Writes structs of one kind.
 #[cycle(print)]
 #[tactic(auto, using(crate::proofs::Adding::adding))]
 fn structs(
@@ -272,11 +277,10 @@ fn structs(
         (json_of (members (parts_at (faces bound.now.nodes bound.now.shapes) names.now ids.now)))
         (all_seen values.now))))) }
 {
-    let order = order_of(alloc, names)?;
     out.begin_array()?;
     for value in values.as_slice() {
         match value.as_group() {
-            Some(fields) => by_name(alloc, bound, id, ids, names, order.as_slice(), fields, out)?,
+            Some(fields) => named(alloc, bound, id, ids, names, fields, out)?,
             None => return Err(Halt::Fallback),
         }
     }

@@ -67,10 +67,7 @@ pub(crate) fn ascii_of(octets: &[u8]) -> Option<&str>
     if !octets.is_ascii() {
         return None;
     }
-    match str::from_utf8(octets) {
-        Ok(text) => Some(text),
-        Err(_) => None,
-    }
+    Some(unsafe { str::from_utf8_unchecked(octets) })
 }
 
 /// The string of octets.

@@ -274,7 +274,7 @@ fn raised_members(
         &mut members,
         alloc,
         "raise",
-        string(alloc, raise_name(raises, k))?,
+        string(alloc, raise_name(alloc, raises, k)?.as_slice())?,
     )?;
     Ok(members)
 }

@@ -10,10 +10,8 @@ use std::alloc::Global;
 pub fn encode(alloc: Global, octets: &[u8]) -> Result<String, NoMemory>
     ensures { IfOk result (λ text. string_bytes text ≡ encode_lower octets.now) }
 {
-    match String::from_utf8(digits_of(alloc, octets)?) {
-        Ok(text) => Ok(text),
-        Err(_) => unreachable!(),
-    }
+    let digits = digits_of(alloc, octets)?;
+    Ok(unsafe { String::from_utf8_unchecked(digits) })
 }
 
 fn digits_of(alloc: Global, octets: &[u8]) -> Result<Vec<u8>, NoMemory>

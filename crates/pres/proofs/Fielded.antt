@@ -1,5 +1,5 @@
 -- The names of fields, by induction on the fields.
-use Rattle.std.proofs.Common.{◌≡◌, ◌<◌, ℕ, zero, suc, List, [], ◌∷◌, length, map, get_or, String, string_bytes, refl, ap, sym, ◌∙◌, subst, arith}
+use Rattle.std.proofs.Common.{◌≡◌, ◌<◌, ℕ, zero, suc, List, [], ◌∷◌, length, map, get_or, Box, String, string_bytes, refl, ap, sym, ◌∙◌, subst, arith}
 use Rattle.std.specs.Prelude.{slice_index_or}
 use Rattle.std.specs.declared.alloc.Global.{Global}
 use Rattle.std.specs.Str.{IsAscii}
@@ -7,8 +7,9 @@ use Rattle.aoi.specs.declared.types.Field.{Field}
 use Rattle.aoi.specs.Shapes.{Shape, members}
 use Rattle.aoi.specs.Sound.{names_of}
 use Rattle.pres.specs.declared.held.Held.{Held}
-use Rattle.pres.specs.declared.held.Held.TheVariants.{Own, Texted, Members}
+use Rattle.pres.specs.declared.held.Held.TheVariants.{Own, Ordered, Texted, Members}
 use Rattle.pres.specs.declared.held.NamesAndTexts.{NamesAndTexts}
+use Rattle.pres.specs.declared.held.NamesInOrder.{NamesInOrder}
 use Rattle.pres.specs.Fielded.{AreTexted, names_held}
 use Rattle.pres.specs.Tables.{AreAscii, text_of, texts_of}
 use Rattle.pres.proofs.Drawn.{field_seen}
@@ -50,8 +51,12 @@ text_held held both slice i d is texts same place there =
     ∙ ap (λ (h : Held). text_of (slice_index_or (names_held h) i [])) (sym is)
 
 -- names of a table's own, without strings, are of ASCII
-pub ascii_own : (held : Held) (names : List (List ℕ)) → held ≡ Own names → AreTexted held → AreAscii (names_held held)
+pub ascii_own : (held : Held) (names : Box (List (List ℕ)) Global) → held ≡ Own names → AreTexted held → AreAscii (names_held held)
 ascii_own held names is texts = subst (λ (h : Held). AreAscii (names_held h)) (sym is) (subst AreTexted is texts)
+
+-- names whose order is kept are of ASCII
+pub ascii_ordered : (held : Held) (both : NamesInOrder) → held ≡ Ordered both → AreTexted held → AreAscii (names_held held)
+ascii_ordered held both is texts = subst (λ (h : Held). AreAscii (names_held h)) (sym is) (subst AreTexted is texts)
 
 -- names of an exception's members are of ASCII
 pub ascii_members : (held : Held) (fs : List Field) → held ≡ Members fs → AreTexted held → AreAscii (names_held held)

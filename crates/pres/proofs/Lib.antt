@@ -36,6 +36,8 @@ pub mod Existing
 pub mod Tabled
 -- * The names of fields, by induction on the fields
 pub mod Fielded
+-- * The order of names by their keys, by induction on the order
+pub mod KeyOrder
 -- * Strings that begin with the string of octets, or are it
 pub mod Passing
 -- * Exceptions that are found by their names, by induction on the exceptions and on the operations

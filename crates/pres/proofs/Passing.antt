@@ -1,8 +1,9 @@
 -- Strings that begin with the string of octets, or are it.
 use Rattle.std.proofs.Common.{◌≡◌, ℕ, suc, ◌<◌, ◌≤◌, ◌+◌, List, [], ◌∷◌, ◌++◌, length, get_or, take, drop, true, false, encode_utf8, IsUtf8, bytes_eq, refl, sym, ap, ◌∙◌, arith, add-one, append_assoc, append-nil, length-append}
 use Rattle.std.proofs.Math.Seq.{drop-cons, take-suc}
+use Rattle.std.specs.Bool.{one_answer}
 use Rattle.std.specs.Str.{IsAscii}
-use Rattle.std.proofs.lemmas.List.{take_all, nil_from_length}
+use Rattle.std.proofs.lemmas.List.{append_cancel_left, take_all, nil_from_length}
 use Rattle.std.proofs.lemmas.Str.{IsUtf8-past_char, encode_same, encodes-append, encodes-IsAscii, length-encode, len_utf8_bounds, length-le-encodes}
 use Rattle.std.proofs.lemmas.Slice.Eq.{bytes_eq-Decides}
 use Rattle.pres.specs.Tables.{text_of}
@@ -84,3 +85,35 @@ too_long name text h =
     false_from_ne_true (bytes_eq (text_of name) text) (λ e.
     let same : text_of name ≡ text = (bytes_eq-Decides (text_of name) text).0 e in
     omega (arith, h, length-le-encodes name, ap (λ (t : List ℕ). length t) same))
+
+-- what stands after the same front is the same where all is
+same_end : (front a b : List ℕ) → bytes_eq a b ≡ bytes_eq (front ++ a) (front ++ b)
+same_end front a b =
+    one_answer (bytes_eq a b) (bytes_eq (front ++ a) (front ++ b)) (bytes_eq-Decides a b) (
+      λ t. append_cancel_left front a b ((bytes_eq-Decides (front ++ a) (front ++ b)).0 t),
+      λ e. (bytes_eq-Decides (front ++ a) (front ++ b)).1 (ap (λ z. front ++ z) e),
+    )
+
+-- a string that begins with the first piece is the octets' where the rest is the second's
+pub rest_decides : (name prefix own text rest : List ℕ) → name ≡ prefix ++ own → text ≡ text_of prefix ++ rest
+    → bytes_eq (text_of own) rest ≡ bytes_eq (text_of name) text
+rest_decides name prefix own text rest pieces begins =
+    same_end (text_of prefix) (text_of own) rest
+    ∙ ap (λ t. bytes_eq t (text_of prefix ++ rest)) (sym (ap text_of pieces ∙ encodes-append prefix own))
+    ∙ ap (λ t. bytes_eq (text_of name) t) (sym begins)
+
+-- a string that does not begin with the first piece is not the octets'
+pub other_front : (name prefix own text : List ℕ) → name ≡ prefix ++ own
+    → ((more : List ℕ) → text ≡ text_of prefix ++ more → ⊥)
+    → bytes_eq (text_of name) text ≡ false
+other_front name prefix own text pieces differs =
+    other_text name text (λ more e. differs (text_of own ++ more) (
+    e ∙ ap (λ t. t ++ more) (ap text_of pieces ∙ encodes-append prefix own) ∙ append_assoc (text_of prefix) (text_of own) more))
+
+-- octets of ASCII are the same as a string where it is theirs
+pub plain_turned : (name text : List ℕ) → IsAscii name → bytes_eq text name ≡ bytes_eq (text_of name) text
+plain_turned name text h =
+    one_answer (bytes_eq text name) (bytes_eq (text_of name) text) (bytes_eq-Decides text name) (
+      λ t. sym (sym (encodes-IsAscii name h) ∙ (bytes_eq-Decides (text_of name) text).0 t),
+      λ e. (bytes_eq-Decides (text_of name) text).1 (encodes-IsAscii name h ∙ sym e),
+    )

@@ -10,5 +10,6 @@ pub mod Sizes
 pub mod Regular
 pub mod Laws
 pub mod Tables
+pub mod KeyOrder
 pub mod Fielded
 pub mod Raises

@@ -26,7 +26,7 @@ fn is_long_id(raises: &[Raise]) -> bool
     ensures { result ≡ list_any (λ (r : PlainRaise). is_long r.id) (map plain_raise raises.now) }
 {
     for raise in raises {
-        if is_long(&raise.id) {
+        if raise.id.get().is_longer(LONGEST_NAME) {
             return true;
         }
     }

@@ -1,13 +1,15 @@
 //! The names of fields, as octets and as strings.
 
-ghost use Rattle.std.specs.Prelude.{◌≡◌, ◌<◌, length, map, true, IfOk, [], string_bytes, slice_index_or};
+ghost use Rattle.std.specs.Prelude.{◌≡◌, ◌<◌, length, map, true, IfOk, IfSome, [], Some, string_bytes, slice_index_or};
 ghost use Rattle.std.specs.Str.{IsAscii};
 ghost use Rattle.aoi.specs.Shapes.{members};
 ghost use Rattle.aoi.specs.Sound.{names_of};
-ghost use Rattle.pres.specs.Fielded.{AreTexted, names_held};
+ghost use Rattle.pres.specs.Fielded.{AreKept, AreOrdered, AreTexted, names_held};
+ghost use Rattle.pres.specs.KeyOrder.{key_order};
 ghost use Rattle.pres.specs.Tables.{AreAscii, text_of, texts_of};
 
-use crate::held::{Held, NamesAndTexts};
+use crate::held::{Held, NamesAndTexts, NamesInOrder};
+use crate::key_order::order_of;
 use crate::texts::text_of;
 use aoi::{Field, RaiseFields};
 use kit_base::{Boxed, Listed, NoMemory, Octets, Words};
@@ -24,13 +26,13 @@ pub struct FieldTable {
 
 impl Model for FieldTable {
     ghost use Rattle.std.specs.Prelude.{ℕ, List};
-    ghost use Rattle.pres.specs.Fielded.{AreTexted, names_held};
+    ghost use Rattle.pres.specs.Fielded.{AreKept, names_held};
 
     ghost Value = { List (List ℕ) };
 
     ghost view = { λ t. names_held t.held };
 
-    ghost invariant = { λ t. AreTexted t.held };
+    ghost invariant = { λ t. AreKept t.held };
 }
 
 /// Whether names are of ASCII.
@@ -56,27 +58,54 @@ fn texts_of(alloc: Global, names: &[Octets]) -> Result<Listed<String>, NoMemory>
     Ok(texts)
 }
 
-/// Names of a table's own, with their strings where one is not of ASCII.
+/// Names with their order.
+fn with_order(alloc: Global, held: Held, order: Vec<u8>) -> Result<Held, NoMemory>
+    requires kept { AreKept held }
+    requires order { key_order (names_held held) ≡ Some order.items }
+    ensures names { IfOk result (λ all. names_held all ≡ names_held held) }
+    ensures kept { IfOk result (λ all. AreKept all) }
+{
+    match held {
+        Held::Own(names) => {
+            let names = Box::into_inner(names);
+            let both = Boxed::new(alloc, NamesInOrder { names, order })?;
+            Ok(Held::Ordered(both))
+        }
+        other => Ok(other),
+    }
+}
+
+/// Names of ASCII, with their order where it is made.
+fn ascii_names(alloc: Global, names: Words) -> Result<Held, NoMemory>
+    requires { AreAscii names }
+    ensures names { IfOk result (λ held. names_held held ≡ names) }
+    ensures kept { IfOk result (λ held. AreKept held) }
+{
+    let held = Held::Own(Box::new(alloc, names)?);
+    match order_of(alloc, &held)? {
+        Some(order) => with_order(alloc, held, order),
+        None => Ok(held),
+    }
+}
+
+/// Names of a table's own, with their order, or with their strings where one is not of ASCII.
 fn own_names(alloc: Global, names: Words) -> Result<Held, NoMemory>
     ensures names { IfOk result (λ held. names_held held ≡ names) }
-    ensures texts { IfOk result (λ held. AreTexted held) }
+    ensures kept { IfOk result (λ held. AreKept held) }
 {
     if are_ascii(names.as_slice()) {
-        return Ok(Held::Own(names));
+        return ascii_names(alloc, names);
     }
     let texts = texts_of(alloc, names.as_slice())?;
     Ok(Held::Texted(Boxed::new(alloc, NamesAndTexts { names, texts })?))
 }
 
-/// Octets of ASCII as a string.
+/// Octets of ASCII as a string, without a look at them.
 fn as_text(octets: &[u8]) -> &str
     requires { IsAscii octets.now }
     ensures { result.now ≡ text_of octets.now }
 {
-    match str::from_utf8(octets) {
-        Ok(text) => text,
-        Err(_) => unreachable!(),
-    }
+    unsafe { str::from_utf8_unchecked(octets) }
 }
 
 impl FieldTable {
@@ -120,6 +149,20 @@ impl FieldTable {
     {
         held_text(&self.held, i)
     }
+
+    /// The places of the names in the order of their keys, where it is kept.
+    pub fn order(&self) -> Option<&[u8]>
+        ensures { IfSome result (λ order. key_order self.now ≡ Some order.now) }
+    {
+        held_order(&self.held)
+    }
+
+    /// The places of the names in the order of their keys, made anew, where the names are few and their keys different.
+    pub fn make_order(&self, alloc: Global) -> Result<Option<Vec<u8>>, NoMemory>
+        ensures { IfOk result (λ made. IfSome made (λ order. key_order self.now ≡ Some order.items)) }
+    {
+        order_of(alloc, &self.held)
+    }
 }
 
 /// How many names fields have.
@@ -138,11 +181,12 @@ fn name_at(fields: &[Field], i: usize) -> &[u8]
 }
 
 /// How many names are held.
-fn held_len(held: &Held) -> usize
+pub(crate) fn held_len(held: &Held) -> usize
     ensures { result ≡ length (names_held held.now) }
 {
     match held {
         Held::Own(names) => names.len(),
+        Held::Ordered(both) => both.names.len(),
         Held::Texted(both) => both.names.len(),
         Held::Members(fields) => count_of(fields.get().as_slice()),
     }
@@ -155,20 +199,33 @@ fn held_name(held: &Held, i: usize) -> &[u8]
 {
     match held {
         Held::Own(names) => names.as_slice()[i].as_slice(),
+        Held::Ordered(both) => both.names.as_slice()[i].as_slice(),
         Held::Texted(both) => both.names.as_slice()[i].as_slice(),
         Held::Members(fields) => name_at(fields.get().as_slice(), i),
     }
 }
 
 /// The string of the name that is held at a place.
-fn held_text(held: &Held, i: usize) -> &str
+pub(crate) fn held_text(held: &Held, i: usize) -> &str
     requires texts { AreTexted held.now }
     requires place { i < length (names_held held.now) }
     ensures { result.now ≡ text_of (slice_index_or (names_held held.now) i []) }
 {
     match held {
-        Held::Own(_) => as_text(held_name(held, i)),
         Held::Texted(both) => both.texts.as_slice()[i].as_str(),
+        Held::Own(_) => as_text(held_name(held, i)),
+        Held::Ordered(_) => as_text(held_name(held, i)),
         Held::Members(_) => as_text(held_name(held, i)),
+    }
+}
+
+/// The order that is kept.
+fn held_order(held: &Held) -> Option<&[u8]>
+    requires { AreOrdered held.now }
+    ensures { IfSome result (λ order. key_order (names_held held.now) ≡ Some order.now) }
+{
+    match held {
+        Held::Ordered(both) => Some(both.order.as_slice()),
+        _ => None,
     }
 }

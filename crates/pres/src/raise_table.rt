@@ -6,9 +6,10 @@ ghost use Rattle.std.specs.Str.{bytes_eq};
 ghost use Rattle.pres.specs.Raises.{IsTable, number_from};
 ghost use Rattle.pres.specs.Tables.{text_of};
 
-use crate::texts::{is_text_of, text_of};
-use kit_base::{Name, NoMemory};
-use kit_shared::{Shared, SharedNames};
+use crate::texts::{is_full_text_of, text_of};
+use aoi::{FullName, FullNames};
+use kit_base::NoMemory;
+use kit_shared::Shared;
 use std::alloc::Global;
 use std::collections::BTreeMap;
 use std::marker::Model;
@@ -19,7 +20,7 @@ const LONGEST: usize = 128;
 /// Names in order. A string is found among them by a table, or one by one where a name is long: no long name is copied.
 #[derive(Drop)]
 pub(crate) struct RaiseTable {
-    names: SharedNames,
+    names: FullNames,
     numbers: Option<BTreeMap<String, u32>>,
 }
 
@@ -35,9 +36,9 @@ impl Model for RaiseTable {
 }
 
 /// Whether a name is long.
-fn has_long(names: &[Shared<Name>]) -> bool {
+fn has_long(names: &[Shared<FullName>]) -> bool {
     for name in names {
-        if name.len() > LONGEST {
+        if name.get().is_longer(LONGEST) {
             return true;
         }
     }
@@ -48,13 +49,14 @@ fn has_long(names: &[Shared<Name>]) -> bool {
 fn put_name(
     alloc: Global,
     table: &mut BTreeMap<String, u32>,
-    name: &[u8],
+    name: &FullName,
     number: u32,
 ) -> Result<(), NoMemory>
     ensures { OnOk result ((s : List ℕ) → get_by_text table.new s
         ≡ (if bytes_eq (text_of name.now) s then Some number else get_by_text table.old s)) }
 {
-    table.insert(text_of(alloc, name)?, number)?;
+    let whole = name.whole(alloc)?;
+    table.insert(text_of(alloc, whole.as_slice())?, number)?;
     Ok(())
 }
 
@@ -62,7 +64,7 @@ fn put_name(
 fn put_names(
     alloc: Global,
     table: &mut BTreeMap<String, u32>,
-    names: &[Shared<Name>],
+    names: &[Shared<FullName>],
 ) -> Result<(), NoMemory>
     requires empty { IsEmpty table.old }
     requires few { length names.now + 1 < 2 ^ 32 }
@@ -70,7 +72,7 @@ fn put_names(
 {
     let mut number = names.len();
     while number > 0 {
-        let name = names[number - 1].as_slice();
+        let name = names[number - 1].get();
         put_name(alloc, table, name, number as u32)?;
         number -= 1;
     }
@@ -80,7 +82,7 @@ fn put_names(
 /// The numbers of names by the strings that they are, unless a name is long.
 fn numbers_of(
     alloc: Global,
-    names: &[Shared<Name>],
+    names: &[Shared<FullName>],
 ) -> Result<Option<BTreeMap<String, u32>>, NoMemory>
     ensures { IfOk result (λ numbers. IsTable names.now numbers) }
 {
@@ -97,13 +99,13 @@ fn numbers_of(
 }
 
 /// The number of the first of these names that a string is, from 1.
-fn number_among(names: &[Shared<Name>], text: &str) -> Option<u32>
+fn number_among(names: &[Shared<FullName>], text: &str) -> Option<u32>
     requires { length names.now + 1 < 2 ^ 32 }
     ensures { result ≡ number_from text.now 1 names.now }
 {
     let mut number = 1;
     for name in names {
-        if is_text_of(name.as_slice(), text) {
+        if is_full_text_of(name.get(), text) {
             return Some(number);
         }
         number += 1;
@@ -113,7 +115,7 @@ fn number_among(names: &[Shared<Name>], text: &str) -> Option<u32>
 
 impl RaiseTable {
     /// A table of names.
-    pub(crate) fn new(alloc: Global, names: SharedNames) -> Result<RaiseTable, NoMemory>
+    pub(crate) fn new(alloc: Global, names: FullNames) -> Result<RaiseTable, NoMemory>
         ensures { IfOk result (λ t. t ≡ names) }
     {
         let numbers = numbers_of(alloc, names.as_slice())?;

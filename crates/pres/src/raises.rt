@@ -7,9 +7,8 @@ ghost use Rattle.pres.specs.Raises.{FindEach, FindMore, FindsRaises, names_in, s
 
 use crate::messages::gets_null;
 use crate::raise_table::RaiseTable;
-use aoi::{Interface, Operation, Raise, Unit};
+use aoi::{FullNames, Interface, Operation, Raise, Unit};
 use kit_base::NoMemory;
-use kit_shared::SharedNames;
 use std::alloc::Global;
 use wire_def::Back;
 
@@ -17,10 +16,10 @@ use wire_def::Back;
 pub(crate) type RaiseTables = Vec<RaiseTable>;
 
 /// The names of exceptions.
-fn names_of(alloc: Global, raises: &[Raise]) -> Result<SharedNames, NoMemory>
+fn names_of(alloc: Global, raises: &[Raise]) -> Result<FullNames, NoMemory>
     ensures { IfOk result (λ names. names ≡ names_in (map plain_raise raises.now)) }
 {
-    let mut names = SharedNames::new(alloc);
+    let mut names = FullNames::new(alloc);
     for raise in raises {
         names.push(raise.name.share()?)?;
     }
@@ -62,7 +61,7 @@ fn put_gotten(
         tables.old.items tables.new.items) }
 {
     if gets_null(back, interface) {
-        let names = SharedNames::new(alloc);
+        let names = FullNames::new(alloc);
         let table = RaiseTable::new(alloc, names)?;
         tables.push(table)?;
     }

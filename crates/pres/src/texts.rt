@@ -1,10 +1,11 @@
 //! Strings that stand for octets.
 
-ghost use Rattle.std.specs.Prelude.{◌≡◌, ◌≢◌, ◌++◌, ℕ, List, IfNone, IfOk, IfSome, IsUtf8, string_bytes};
-ghost use Rattle.std.specs.Str.{bytes_eq};
+ghost use Rattle.std.specs.Prelude.{◌≡◌, ◌≢◌, ◌++◌, ℕ, List, IfNone, IfOk, IfSome, IsUtf8, string_bytes, true};
+ghost use Rattle.std.specs.Str.{bytes_eq, IsAscii};
 ghost use Rattle.std.specs.Str.Iter.{chars_rest};
 ghost use Rattle.pres.specs.Tables.{text_of};
 
+use aoi::FullName;
 use kit_base::NoMemory;
 use std::alloc::Global;
 use std::str::Chars;
@@ -65,4 +66,36 @@ pub fn is_text_of(octets: &[u8], text: &str) -> bool
         return octets == text.as_bytes();
     }
     is_rest_of(octets, text.chars())
+}
+
+/// Whether the octets of a full name are of ASCII.
+fn is_ascii(name: &FullName) -> bool
+    ensures { result ≡ true → IsAscii name.now }
+{
+    let (prefix, own) = name.parts();
+    prefix.is_ascii() && own.is_ascii()
+}
+
+/// Whether a string is that of the octets of a full name, piece by piece.
+fn is_text_of_pieces(name: &FullName, text: &str) -> bool
+    ensures { result ≡ bytes_eq (text_of name.now) text.now }
+{
+    let (prefix, own) = name.parts();
+    match text_after(prefix, text.chars()) {
+        Some(rest) => is_rest_of(own, rest),
+        None => false,
+    }
+}
+
+/// Whether a string is that of the octets of a full name, of which no copy is made.
+pub fn is_full_text_of(name: &FullName, text: &str) -> bool
+    ensures { result ≡ bytes_eq (text_of name.now) text.now }
+{
+    if name.is_longer(text.len()) {
+        return false;
+    }
+    if is_ascii(name) {
+        return name.is(text.as_bytes());
+    }
+    is_text_of_pieces(name, text)
 }

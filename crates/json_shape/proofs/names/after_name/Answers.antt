@@ -1,5 +1,9 @@
-use Rattle.json_shape.proofs.Plain.{some_in_plain, some_after_plain, if_none_in_plain, if_none_after_plain, none_after_long}
+use Rattle.json_shape.proofs.Plain.{some_in_plain, some_after_plain, if_none_in_plain, if_none_after_plain, none_after_long, some_ascii}
 use Rattle.json_shape.proofs.names.after_name.Goals as goal
+
+pub returns-then-plain-clause-plain : goal.returns-then-plain-clause-plain
+returns-then-plain-clause-plain c =
+    λ p. some_ascii c.args.name.now c.args.text.now c.past_dot.result (c.requires p) c.past_dot.ensures.some
 
 pub returns-then-plain-clause-some : goal.returns-then-plain-clause-some
 returns-then-plain-clause-some c =

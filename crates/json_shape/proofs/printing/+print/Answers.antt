@@ -7,7 +7,7 @@ use Rattle.serde_json.specs.Data.{array, object, Items, Members, no_members}
 use Rattle.json_shape.specs.Printed.{members_at, tokens_of, tokens_of_items, tokens_of_members}
 use Rattle.json_shape.specs.Written.{in_order_json, by_name_json}
 use Rattle.json_shape.proofs.Adding.{Leaves, left_last}
-use Rattle.json_shape.proofs.FieldPlaces.{fields_put, trees_at}
+use Rattle.json_shape.proofs.FieldPlaces.{fields_put, order_is, trees_at}
 use Rattle.json_shape.proofs.Items.{parts_none}
 use Rattle.json_shape.proofs.printing.+print.Goals as goal
 
@@ -23,7 +23,7 @@ by_name-returns t c =
     let tree = trees_at fs ids values in
     let lens : length values ≡ length ids = rw (c.as_slice-ids.ensures, c.as_slice-values.ensures) at c.if-values-ids.false in
     let same : by_name_json (parts_at fs names ids) (all_seen values) ≡ members_at names tree order =
-    fields_put fs names ids values c.requires.named lens ∙ c.requires.order tree in
+    fields_put fs names ids values c.requires.named lens ∙ order_is names tree order c.requires.order in
     let none : drop c.loop-i.i-index order ≡ [] = drop_all c.loop-i.i-index order (omega (arith, c.loop-i-test.false)) in
     let left = subst (λ (is : List ℕ). Leaves old out (tokens_of_members (members_at names tree is))
     (tokens_of (object (members_at names tree order)))) none c.loop-i.invariant in

@@ -9,34 +9,37 @@ use Rattle.json_shape.proofs.FieldPlaces.{trees_at}
 use Rattle.json_shape.proofs.printing.+print.Given as goal
 
 abbrev pub decreases-print : goal.decreases-print
-decreases-print l = l.id + l.id + l.id + 2
+decreases-print l = l.id + l.id + l.id + l.id + 3
 
 abbrev pub decreases-alone : goal.decreases-alone
-decreases-alone l = l.id + l.id + l.id
+decreases-alone l = l.id + l.id + l.id + l.id
 
 abbrev pub decreases-group : goal.decreases-group
-decreases-group l = l.id + l.id + l.id + 1
+decreases-group l = l.id + l.id + l.id + l.id + 2
+
+abbrev pub decreases-named : goal.decreases-named
+decreases-named l = l.id + l.id + l.id + l.id + 1
 
 abbrev pub decreases-by_name : goal.decreases-by_name
-decreases-by_name l = l.id + l.id + l.id
+decreases-by_name l = l.id + l.id + l.id + l.id
 
 abbrev pub decreases-in_order : goal.decreases-in_order
-decreases-in_order l = l.id + l.id + l.id
+decreases-in_order l = l.id + l.id + l.id + l.id
 
 abbrev pub decreases-items : goal.decreases-items
-decreases-items l = l.id + l.id + l.id + 1
+decreases-items l = l.id + l.id + l.id + l.id + 1
 
 abbrev pub decreases-each : goal.decreases-each
-decreases-each l = l.id + l.id + l.id
+decreases-each l = l.id + l.id + l.id + l.id
 
 abbrev pub decreases-structs : goal.decreases-structs
-decreases-structs l = l.id + l.id + l.id + 1
+decreases-structs l = l.id + l.id + l.id + l.id + 2
 
 abbrev pub decreases-choice : goal.decreases-choice
-decreases-choice l = l.id + l.id + l.id + 1
+decreases-choice l = l.id + l.id + l.id + l.id + 1
 
 abbrev pub decreases-arm : goal.decreases-arm
-decreases-arm l = l.id + l.id + l.id
+decreases-arm l = l.id + l.id + l.id + l.id
 
 -- What is written, and the fields that are left, are all.
 abbrev pub invariant-by_name-loop-i : goal.invariant-by_name-loop-i

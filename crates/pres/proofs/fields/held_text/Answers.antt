@@ -1,7 +1,7 @@
 use Rattle.std.proofs.Common.{◌∙◌, ap}
 use Rattle.pres.specs.declared.held.NamesAndTexts.{NamesAndTexts}
 use Rattle.pres.specs.Fielded.{names_held}
-use Rattle.pres.proofs.Fielded.{ascii_members, ascii_name, ascii_own, text_held}
+use Rattle.pres.proofs.Fielded.{ascii_members, ascii_name, ascii_ordered, ascii_own, text_held}
 use Rattle.pres.proofs.fields.held_text.Goals as goal
 
 pub returns-in-Texted : goal.returns-in-Texted
@@ -20,3 +20,8 @@ pub as_text-requires-in-Members : goal.as_text-requires-in-Members
 as_text-requires-in-Members c =
     ascii_name (names_held c.args.held.now) c.args.i c.held_name-in-Members.result.now
     (ascii_members c.args.held.now _ c.in-Members.is c.requires.texts) c.requires.place c.held_name-in-Members.ensures
+
+pub as_text-requires-in-Ordered : goal.as_text-requires-in-Ordered
+as_text-requires-in-Ordered c =
+    ascii_name (names_held c.args.held.now) c.args.i c.held_name-in-Ordered.result.now
+    (ascii_ordered c.args.held.now _ c.in-Ordered.is c.requires.texts) c.requires.place c.held_name-in-Ordered.ensures
