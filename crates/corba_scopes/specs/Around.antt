@@ -1,5 +1,5 @@
 -- The prefixes of scopes. A scope is its prefix: nothing for the file; for what is declared in a scope that prefix, its name and a dot.
-use Rattle.std.specs.Prelude.{ℕ, List, [], ◌∷◌, ◌++◌, codes}
+use Rattle.std.specs.Prelude.{ℕ, ◌==◌, List, [], ◌∷◌, ◌++◌, map, codes, if◌then◌else◌}
 
 -- the prefix of the scope into which `::` leads after a full name
 abbrev pub prefix_of : List ℕ → List ℕ
@@ -17,3 +17,13 @@ innermost (scope ∷ env) = scope
 -- the scopes around a place inside what is declared by this name
 abbrev pub inside : List ℕ → List (List ℕ) → List (List ℕ)
 inside name env = prefix_of (innermost env ++ name) ∷ env
+
+-- ---- repository ids
+
+-- `/` in the place of `.`
+abbrev pub slashed : ℕ → ℕ
+slashed c = if c == 46 then 47 else c
+
+-- the prefix of the repository ids of a scope's exceptions: `IDL:M/`
+abbrev pub ids_of : List ℕ → List ℕ
+ids_of scope = codes "IDL:" ++ map slashed scope

@@ -1,15 +1,13 @@
 //! The prefixes of scopes, and the scopes around a place.
 
 ghost use Rattle.std.specs.Prelude.{◌≡◌, ◌++◌, [], IfOk, OnOk};
-ghost use Rattle.corba_scopes.specs.Around.{file, prefix_of, innermost, inside};
+ghost use Rattle.corba_scopes.specs.Around.{file, prefix_of, innermost, inside, ids_of};
 
+use crate::ids::ids_of;
+use crate::scope::{Scope, scope_in};
 use aoi::FullName;
 use kit_base::{Listed, Name, NoMemory};
-use kit_shared::Shared;
 use std::alloc::Global;
-
-/// The prefix of a scope, which is kept once for all that is declared in it.
-pub type Scope = Shared<Name>;
 
 /// The prefixes of the scopes around a place, the innermost first: `M.I.`, `M.`, and the file's empty one.
 pub type Env = Listed<Scope>;
@@ -24,19 +22,12 @@ pub fn full_name(alloc: Global, scope: &[u8], name: &[u8]) -> Result<Name, NoMem
     Ok(full)
 }
 
-/// The prefix of the scope into which `::` leads after a full name.
-pub fn prefix_of(alloc: Global, full: &[u8]) -> Result<Name, NoMemory>
+/// The scope into which `::` leads after a full name.
+pub fn scope_after(alloc: Global, full: &FullName) -> Result<Scope, NoMemory>
     ensures { IfOk result (λ scope. scope ≡ prefix_of full.now) }
 {
-    full_name(alloc, full, b".")
-}
-
-/// The prefix of the scope of what is declared by this name in a scope.
-fn scope_in(alloc: Global, scope: &[u8], name: &[u8]) -> Result<Name, NoMemory>
-    ensures { IfOk result (λ inner. inner ≡ prefix_of (scope.now ++ name.now)) }
-{
-    let full = full_name(alloc, scope, name)?;
-    prefix_of(alloc, full.as_slice())
+    let (prefix, own) = full.parts();
+    Scope::of(alloc, scope_in(alloc, prefix, own)?)
 }
 
 /// The full name of what is declared in the innermost scope, with the prefix of that.
@@ -44,7 +35,7 @@ pub fn named_in(alloc: Global, env: &[Scope], name: &[u8]) -> Result<FullName, N
     ensures { IfOk result (λ full. full ≡ innermost env.now ++ name.now) }
 {
     match env {
-        [scope, ..] => FullName::after(alloc, scope, name),
+        [scope, ..] => scope.named(alloc, name),
         [] => Ok(FullName::of(Name::from_slice(alloc, name)?)),
     }
 }
@@ -54,7 +45,7 @@ pub fn of_file(alloc: Global) -> Result<Env, NoMemory>
     ensures { IfOk result (λ env. env ≡ file) }
 {
     let mut env = Env::new(alloc);
-    env.push(Scope::new(alloc, Name::new(alloc))?)?;
+    env.push(Scope::with_ids(alloc, Name::new(alloc), ids_of(alloc, b"")?)?)?;
     Ok(env)
 }
 
@@ -63,8 +54,22 @@ pub fn innermost(env: &[Scope]) -> &[u8]
     ensures { result.now ≡ innermost env.now }
 {
     match env {
-        [scope, ..] => scope.get().as_slice(),
+        [scope, ..] => scope.as_slice(),
         [] => b"",
+    }
+}
+
+/// The repository id of what is declared in the innermost scope, with this end.
+pub fn id_in(alloc: Global, env: &[Scope], name: &[u8], end: &[u8]) -> Result<FullName, NoMemory>
+    ensures { IfOk result (λ id. id ≡ ids_of (innermost env.now ++ name.now) ++ end.now) }
+{
+    match env {
+        [scope, ..] => scope.id(alloc, name, end),
+        [] => {
+            let mut id = ids_of(alloc, name)?;
+            id.append(end)?;
+            Ok(FullName::of(id))
+        }
     }
 }
 
@@ -78,13 +83,22 @@ fn share_all(scopes: &mut Env, env: &[Scope]) -> Result<(), NoMemory>
     Ok(())
 }
 
+/// The scope of what is declared by this name in the innermost scope.
+fn inner(alloc: Global, env: &[Scope], name: &[u8]) -> Result<Scope, NoMemory>
+    ensures { IfOk result (λ s. s ≡ prefix_of (innermost env.now ++ name.now)) }
+{
+    match env {
+        [scope, ..] => scope.inner(alloc, name),
+        [] => Scope::of(alloc, scope_in(alloc, b"", name)?),
+    }
+}
+
 /// The scopes around a place inside what is declared by this name in the innermost of these.
 pub fn inside(alloc: Global, env: &[Scope], name: &[u8]) -> Result<Env, NoMemory>
     ensures { IfOk result (λ scopes. scopes ≡ inside name.now env.now) }
 {
-    let scope = scope_in(alloc, innermost(env), name)?;
     let mut scopes = Env::new(alloc);
-    scopes.push(Scope::new(alloc, scope)?)?;
+    scopes.push(inner(alloc, env, name)?)?;
     share_all(&mut scopes, env)?;
     Ok(scopes)
 }

@@ -4,8 +4,8 @@ ghost use Rattle.std.specs.Prelude.{◌≡◌};
 ghost use Rattle.idl_names.specs.Answers.{Gives};
 ghost use Rattle.corba_scopes.specs.Consts.{number_of, leaf_number, number, constant, length_of};
 
-use crate::around::Scope;
 use crate::meanings::{Constant, Entry, Meaning};
+use crate::scope::Scope;
 use crate::state::Scopes;
 use aoi::{NameErr, NameFault};
 use idl_const::{binary, unary};

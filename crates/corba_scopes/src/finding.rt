@@ -1,23 +1,25 @@
 //! How names are found.
 
 ghost use Rattle.std.specs.Prelude.{◌≡◌, ◌++◌, IfOk};
+ghost use Rattle.corba_scopes.specs.Around.{innermost};
 ghost use Rattle.corba_scopes.specs.Finding.{entry_at, first_in, found, sought, within, first, named};
 
-use crate::around::{Scope, full_name, prefix_of};
+use crate::around::scope_after;
 use crate::meanings::Entry;
+use crate::scope::Scope;
 use crate::state::Scopes;
 use idl_exprs::{Identifier, ScopedName};
-use kit_base::NoMemory;
+use kit_base::{Name, NoMemory};
 use std::alloc::Global;
 
 impl Scopes {
     /// A name that is declared in a scope itself.
-    fn at(&self, alloc: Global, scope: &[u8], name: &[u8]) -> Result<Option<Entry>, NoMemory>
+    fn at(&self, alloc: Global, scope: &Scope, name: &[u8]) -> Result<Option<Entry>, NoMemory>
         ensures { IfOk result (λ e. e ≡ entry_at self.now (scope.now ++ name.now)) }
     {
-        match self.meaning(alloc, scope, name)? {
+        match self.meaning(alloc, scope.as_slice(), name)? {
             Some(meaning) => Ok(Some(Entry {
-                name: full_name(alloc, scope, name)?,
+                name: scope.named(alloc, name)?,
                 meaning,
             })),
             None => Ok(None),
@@ -29,7 +31,7 @@ impl Scopes {
         ensures { IfOk result (λ e. e ≡ first_in self.now name.now scopes.now) }
     {
         match scopes {
-            [scope, rest @ ..] => match self.at(alloc, scope.get().as_slice(), name)? {
+            [scope, rest @ ..] => match self.at(alloc, scope, name)? {
                 Some(entry) => Ok(Some(entry)),
                 None => self.along(alloc, rest, name),
             },
@@ -38,12 +40,27 @@ impl Scopes {
     }
 
     /// A name in a scope or, where that is an interface's, in a base.
-    pub fn found(&self, alloc: Global, scope: &[u8], name: &[u8]) -> Result<Option<Entry>, NoMemory>
+    fn found(&self, alloc: Global, scope: &Scope, name: &[u8]) -> Result<Option<Entry>, NoMemory>
         ensures { IfOk result (λ e. e ≡ found self.now scope.now name.now) }
     {
-        match self.lines().line(scope) {
+        match self.lines().line(scope.as_slice()) {
             Some(line) => self.along(alloc, line.scopes(), name),
             None => self.at(alloc, scope, name),
+        }
+    }
+
+    /// A name in the innermost of the scopes around a place or, where that is an interface's, in a base.
+    pub fn found_in(
+        &self,
+        alloc: Global,
+        env: &[Scope],
+        name: &[u8],
+    ) -> Result<Option<Entry>, NoMemory>
+        ensures { IfOk result (λ e. e ≡ found self.now (innermost env.now) name.now) }
+    {
+        match env {
+            [scope, ..] => self.found(alloc, scope, name),
+            [] => self.found(alloc, &Scope::of(alloc, Name::new(alloc))?, name),
         }
     }
 
@@ -57,7 +74,7 @@ impl Scopes {
         ensures { IfOk result (λ e. e ≡ sought self.now env.now name.now) }
     {
         match env {
-            [scope, outer @ ..] => match self.found(alloc, scope.get().as_slice(), name)? {
+            [scope, outer @ ..] => match self.found(alloc, scope, name)? {
                 Some(entry) => Ok(Some(entry)),
                 None => self.sought(alloc, outer, name),
             },
@@ -79,8 +96,8 @@ impl Scopes {
         };
         match parts {
             [part, rest @ ..] => {
-                let scope = prefix_of(alloc, entry.name.as_slice())?;
-                let next = self.found(alloc, scope.as_slice(), part.name.as_slice())?;
+                let scope = scope_after(alloc, &entry.name)?;
+                let next = self.found(alloc, &scope, part.name.as_slice())?;
                 self.within(alloc, next, rest)
             }
             [] => Ok(Some(entry)),
@@ -98,7 +115,7 @@ impl Scopes {
         ensures { IfOk result (λ e. e ≡ first self.now env.now absolute name.now) }
     {
         if absolute {
-            return self.found(alloc, b"", name);
+            return self.found_in(alloc, &[], name);
         }
         self.sought(alloc, env, name)
     }

@@ -3,8 +3,8 @@
 ghost use Rattle.std.specs.Prelude.{◌≡◌};
 ghost use Rattle.corba_scopes.specs.Consts.{meaning_of_constant};
 
+use aoi::FullName;
 use idl_names::Use;
-use kit_base::Name;
 use mint::kind::Count;
 
 /// What a name stands for.
@@ -51,7 +51,7 @@ impl Constant {
 #[derive(Debug, Drop)]
 pub struct Entry {
     /// Its full name: the prefix of its scope, and itself.
-    pub name: Name,
+    pub name: FullName,
     /// What it stands for.
     pub meaning: Meaning,
 }

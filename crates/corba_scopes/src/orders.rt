@@ -1,12 +1,13 @@
 //! Base orders: for each interface the scopes in which its names are found.
 
-ghost use Rattle.std.specs.Prelude.{◌≡◌, ◌∷◌, [], IfOk, OnOk, option_copied};
+ghost use Rattle.std.specs.Prelude.{◌≡◌, ◌∷◌, [], map, IfOk, OnOk, option_copied};
 ghost use Rattle.std.specs.Str.{bytes_eq};
 ghost use Rattle.idl_names.specs.Names.{has, meaning_of};
 ghost use Rattle.corba_scopes.specs.Names.{put};
 ghost use Rattle.corba_scopes.specs.Finding.{added, joined};
 
-use crate::around::Scope;
+use crate::prefixes::NEAR;
+use crate::scope::Scope;
 use indexmap::IndexMap;
 use kit_base::{Listed, Name, NoMemory};
 use std::alloc::Global;
@@ -34,7 +35,7 @@ fn has(scope: &[u8], scopes: &[Scope]) -> bool
     ensures { result ≡ has scope.now scopes.now }
 {
     for other in scopes {
-        if is_same_scope(scope, other.get().as_slice()) {
+        if is_same_scope(scope, other.as_slice()) {
             return true;
         }
     }
@@ -61,29 +62,16 @@ impl BaseOrder {
     pub fn of(alloc: Global, scope: &[u8]) -> Result<BaseOrder, NoMemory>
         ensures { IfOk result (λ line. line ≡ scope.now ∷ []) }
     {
-        let mut line = BaseOrder {
-            scopes: Listed::new(alloc),
-        };
-        line.add(alloc, scope)?;
-        Ok(line)
+        let mut scopes = Listed::new(alloc);
+        scopes.push(Scope::of(alloc, Name::from_slice(alloc, scope)?)?)?;
+        Ok(BaseOrder { scopes })
     }
 
     /// Puts a scope after the others, unless it is there.
-    pub fn add(&mut self, alloc: Global, scope: &[u8]) -> Result<(), NoMemory>
+    pub(crate) fn share(&mut self, scope: &Scope) -> Result<(), NoMemory>
         ensures { OnOk result (self.new ≡ added scope.now self.old) }
     {
-        if !has(scope, self.scopes()) {
-            let name = Name::from_slice(alloc, scope)?;
-            self.scopes.push(Scope::new(alloc, name)?)?;
-        }
-        Ok(())
-    }
-
-    /// Puts a scope of another order after the others, unless it is there.
-    fn share(&mut self, scope: &Scope) -> Result<(), NoMemory>
-        ensures { OnOk result (self.new ≡ added scope.now self.old) }
-    {
-        if !has(scope.get().as_slice(), self.scopes()) {
+        if !has(scope.as_slice(), self.scopes()) {
             self.scopes.push(scope.share()?)?;
         }
         Ok(())
@@ -112,6 +100,21 @@ impl BaseOrder {
     {
         self.scopes.as_slice()
     }
+}
+
+/// The line of a long scope, if it is among these. There are few, and most other scopes differ from theirs in length or
+/// at the end, while a hash is made of all octets of a scope.
+fn line_in<'a>(lines: &'a IndexMap<Vec<u8>, BaseOrder>, scope: &[u8]) -> Option<&'a BaseOrder>
+    ensures { option_copied result ≡ meaning_of scope.now (map (λ e. (e.0.items, e.1)) lines.now.entries) }
+{
+    for at in 0..lines.len() {
+        if let Some((key, line)) = lines.get_index(at) {
+            if is_same_scope(scope, key.as_slice()) {
+                return Some(line);
+            }
+        }
+    }
+    None
 }
 
 /// The base orders of interfaces, by their scopes.
@@ -143,7 +146,10 @@ impl BaseOrders {
     pub(crate) fn line(&self, scope: &[u8]) -> Option<&BaseOrder>
         ensures { option_copied result ≡ meaning_of scope.now self.now }
     {
-        self.lines.get(scope)
+        if scope.len() <= NEAR {
+            return self.lines.get(scope);
+        }
+        line_in(&self.lines, scope)
     }
 
     /// Puts the line of a scope in its place, or after the others.

@@ -5,7 +5,7 @@ ghost use Rattle.corba_scopes.specs.Parted.{cut_within, cut_near, cut};
 
 /// The octets of the longest own part up to its last dot. Of a long scope the scopes within it are no prefixes of
 /// their own.
-const NEAR: usize = 1024;
+pub(crate) const NEAR: usize = 1024;
 
 /// Where the last dot ends, or 0.
 fn last_cut(front: &[u8]) -> usize

@@ -13,6 +13,7 @@ use crate::held::Held;
 use crate::keys::{Key, Keys};
 use crate::meanings::Meaning;
 use crate::orders::{BaseOrder, BaseOrders};
+use crate::scope::Scope;
 use aoi::{NameErr, NameFault};
 use kit_base::NoMemory;
 use std::alloc::Global;
@@ -224,12 +225,12 @@ impl Scopes {
     }
 
     /// Puts the scopes of one more base after those of an interface's line.
-    pub fn add_base(&self, alloc: Global, base: &[u8], line: &mut BaseOrder) -> Result<(), NoMemory>
+    pub fn add_base(&self, base: &Scope, line: &mut BaseOrder) -> Result<(), NoMemory>
         ensures { OnOk result (line.new ≡ with_base self.now base.now line.old) }
     {
-        match self.lines.line(base) {
+        match self.lines.line(base.as_slice()) {
             Some(other) => line.join(other),
-            None => line.add(alloc, base),
+            None => line.share(base),
         }
     }
 

@@ -1,5 +1,5 @@
 -- Structs and exceptions.
-use Rattle.std.specs.Prelude.{ℕ, ◌==◌, List, [], ◌∷◌, ◌++◌, map, length, codes, None, Ok, if◌then◌else◌}
+use Rattle.std.specs.Prelude.{ℕ, List, [], ◌∷◌, ◌++◌, map, length, codes, None, Ok}
 use Rattle.aoi.specs.Shapes.{Members, structure, members_of}
 use Rattle.aoi.specs.Plain.{PlainRaise}
 use Rattle.idl_names.specs.declared.uses.Tag.TheVariants as tag
@@ -8,7 +8,7 @@ use Rattle.corba_decls.specs.declared.member_tree.Struct.{Struct}
 use Rattle.corba_decls.specs.declared.member_tree.Exception.{Exception}
 use Rattle.corba_scopes.specs.declared.meanings.Meaning.TheVariants as M
 use Rattle.corba_scopes.specs.Names.{clash, refused_by, declared_on}
-use Rattle.corba_scopes.specs.Around.{innermost, inside}
+use Rattle.corba_scopes.specs.Around.{innermost, inside, slashed}
 use Rattle.corba_shapes.specs.State.{State, with_type}
 use Rattle.corba_shapes.specs.Fields.{members_on}
 
@@ -20,10 +20,6 @@ struct_on d env s t =
     with_type d env t.name.name (structure (members_of b.fields)) tag.Other None (record s { names = b.names })))
 
 -- ---- exceptions
-
--- `/` in the place of `.`
-abbrev pub slashed : ℕ → ℕ
-slashed c = if c == 46 then 47 else c
 
 -- the repository id of a full name: `IDL:M/Bad:1.0`
 abbrev pub repository : List ℕ → List ℕ

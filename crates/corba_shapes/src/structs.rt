@@ -1,20 +1,21 @@
 //! Structs and exceptions.
 
-ghost use Rattle.std.specs.Prelude.{◌≡◌, ◌++◌, map, IfOk, OnOk};
+ghost use Rattle.std.specs.Prelude.{◌≡◌, ◌++◌, IfOk};
 ghost use Rattle.aoi.specs.Shapes.{members};
 ghost use Rattle.aoi.specs.Plain.{plain_raise};
 ghost use Rattle.idl_names.specs.Answers.{Gives};
 ghost use Rattle.corba_shapes.specs.Held.{state};
-ghost use Rattle.corba_shapes.specs.Structs.{struct_on, slashed, repository, raised, exception_on};
+ghost use Rattle.corba_scopes.specs.Around.{innermost};
+ghost use Rattle.corba_shapes.specs.Structs.{struct_on, repository, raised, exception_on};
 
 use crate::fields::members;
 use crate::places::At;
 use crate::state::Shapes;
-use aoi::{Fields, NameErr, Raise, RaiseFields};
+use aoi::{Fields, FullName, NameErr, Raise, RaiseFields};
 use corba_decls::{Exception, Struct};
-use corba_scopes::{Meaning, full_name, innermost, inside};
+use corba_scopes::{Meaning, Scope, id_in, innermost, inside, named_in};
 use idl_names::{Tag, struct_of, want};
-use kit_base::{Name, NoMemory};
+use kit_base::NoMemory;
 use kit_shared::Shared;
 use std::alloc::Global;
 
@@ -33,40 +34,20 @@ pub(crate) fn struct_(alloc: Global, r: &mut Shapes, at: At, t: &Struct) -> Resu
     r.declare_type(alloc, at, name, struct_of(fields), Tag::Other, None)
 }
 
-/// An octet, but a slash in the place of a dot.
-fn slashed(c: u8) -> u8
-    ensures { result ≡ slashed c }
+/// The repository id of what is declared in the innermost scope: `IDL:M/Bad:1.0`.
+fn repository(alloc: Global, env: &[Scope], name: &[u8]) -> Result<FullName, NoMemory>
+    ensures { IfOk result (λ id. id ≡ repository (innermost env.now ++ name.now)) }
 {
-    if c == b'.' { b'/' } else { c }
+    id_in(alloc, env, name, b":1.0")
 }
 
-/// Puts a full name at the end of an id, with slashes in the place of its dots.
-fn add_slashed(alloc: Global, id: &mut Name, full: &[u8]) -> Result<(), NoMemory>
-    ensures { OnOk result (id.new ≡ id.old ++ map slashed full.now) }
-{
-    for c in full {
-        id.push(slashed(*c))?;
-    }
-    Ok(())
-}
-
-/// The repository id of a full name: `IDL:M/Bad:1.0`.
-fn repository(alloc: Global, full: &[u8]) -> Result<Name, NoMemory>
-    ensures { IfOk result (λ id. id ≡ repository full.now) }
-{
-    let mut id = Name::from_slice(alloc, b"IDL:")?;
-    add_slashed(alloc, &mut id, full)?;
-    id.append(b":1.0")?;
-    Ok(id)
-}
-
-/// An exception by its full name.
-fn raised(alloc: Global, full: Name, fields: Fields) -> Result<Raise, NoMemory>
-    ensures { IfOk result (λ e. plain_raise e ≡ raised full (members fields)) }
+/// An exception by its name in the innermost scope.
+fn raised(alloc: Global, env: &[Scope], name: &[u8], fields: Fields) -> Result<Raise, NoMemory>
+    ensures { IfOk result (λ e. plain_raise e ≡ raised (innermost env.now ++ name.now) (members fields)) }
 {
     Ok(Raise {
-        id: Shared::new(alloc, repository(alloc, full.as_slice())?)?,
-        name: Shared::new(alloc, full)?,
+        id: Shared::new(alloc, repository(alloc, env, name)?)?,
+        name: Shared::new(alloc, named_in(alloc, env, name)?)?,
         members: Shared::new(alloc, RaiseFields::new(fields))?,
     })
 }
@@ -87,7 +68,6 @@ pub(crate) fn exception(alloc: Global, r: &mut Shapes, at: At, e: &Exception) ->
         return Err(want());
     };
     r.scopes.declare_new(alloc, at.d, innermost(at.env), name, Meaning::Exception(k))?;
-    let full = full_name(alloc, innermost(at.env), name)?;
-    r.exceptions.push(raised(alloc, full, fields)?)?;
+    r.exceptions.push(raised(alloc, at.env, name, fields)?)?;
     Ok(())
 }

@@ -12,11 +12,12 @@ use crate::named::Offers;
 use crate::offers::{add, operation_clash};
 use crate::state::{Heir, Offer, Offering, Resolver};
 use crate::{NameErr, NameFault};
-use corba_scopes::{Entry, Meaning, lower_of, prefix_of, refuse_fault};
+use aoi::FullName;
+use corba_scopes::{Entry, Meaning, lower_of, refuse_fault, scope_after};
 use corba_shapes::At;
 use corba_syntax::Reference;
 use idl_names::{add_number, has_number};
-use kit_base::{Name, NoMemory};
+use kit_base::NoMemory;
 use std::alloc::Global;
 
 /// Why the operation of a base may not be beside these, or nothing.
@@ -80,7 +81,7 @@ fn join(alloc: Global, d: u32, ops: &mut Offers, base: Option<&Offering>) -> Res
 }
 
 /// The number and the full name of an interface.
-fn interface_at(d: u32, entry: Option<Entry>) -> Result<(u32, Name), NameErr>
+fn interface_at(d: u32, entry: Option<Entry>) -> Result<(u32, FullName), NameErr>
     ensures value { Gives (λ x. x) result (interface_at d entry) }
     ensures exact { result ≡ interface_at d entry }
 {
@@ -107,16 +108,14 @@ fn new_base(
     d: u32,
     heir: &mut Heir,
     k: u32,
-    full: &[u8],
+    full: &FullName,
 ) -> Result<(), NameErr>
     requires { list_any (nat_eq k) heir.old.numbers.keys ≡ false }
     ensures { Gives (λ _. heirs heir.new) result (new_base d (held r.now) (heirs heir.old) (k, full.now)) }
 {
     join(alloc, d, &mut heir.ops, r.interfaces.get(k as usize))?;
-    let scope = prefix_of(alloc, full)?;
-    r.shapes
-        .scopes
-        .add_base(alloc, scope.as_slice(), &mut heir.line)?;
+    let scope = scope_after(alloc, full)?;
+    r.shapes.scopes.add_base(&scope, &mut heir.line)?;
     add_number(&mut heir.numbers, k)?;
     Ok(())
 }
@@ -137,7 +136,7 @@ fn base(
     if has_number(&heir.numbers, k) {
         return Ok(());
     }
-    new_base(alloc, r, at.d, heir, k, full.as_slice())
+    new_base(alloc, r, at.d, heir, k, &full)
 }
 
 /// Puts what bases have after what those before them have.

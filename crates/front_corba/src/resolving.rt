@@ -8,6 +8,7 @@ ghost use Rattle.aoi.specs.Plain.{plain, plain_operation, plain_interface};
 ghost use Rattle.aoi.specs.Sound.{IsSound};
 ghost use Rattle.aoi.specs.declared.faults.NameFault.TheVariants.{NoMemory as OutOfMemory};
 ghost use Rattle.idl_names.specs.Answers.{Gives};
+ghost use Rattle.corba_scopes.specs.Around.{innermost};
 ghost use Rattle.kit_base.specs.Limits.{most_interfaces, most_operations};
 ghost use Rattle.aoi.specs.Units.{is_twice};
 ghost use Rattle.front_corba.specs.Held.{plain_offer, plain_offering, held};
@@ -39,16 +40,16 @@ fn begin(
     alloc: Global,
     scopes: &mut Scopes,
     d: u32,
-    scope: &[u8],
+    env: &[Scope],
     name: &[u8],
 ) -> Result<(), NameErr>
-    ensures { Gives (λ _. scopes.new) result (begun_on d scopes.old scope.now name.now) }
+    ensures { Gives (λ _. scopes.new) result (begun_on d scopes.old (innermost env.now) name.now) }
 {
-    let entry = scopes.found(alloc, scope, name)?;
+    let entry = scopes.found_in(alloc, env, name)?;
     if is_module(&entry) {
         return Ok(());
     }
-    scopes.declare_new(alloc, d, scope, name, Meaning::Module)
+    scopes.declare_new(alloc, d, innermost(env), name, Meaning::Module)
 }
 
 /// Declares a module, and what is defined in it.
@@ -58,7 +59,7 @@ fn module(alloc: Global, r: &mut Resolver, env: &[Scope], m: &Module) -> Result<
 {
     let d = r.shapes.count;
     let name = m.name.name.as_slice();
-    begin(alloc, &mut r.shapes.scopes, d, innermost(env), name)?;
+    begin(alloc, &mut r.shapes.scopes, d, env, name)?;
     let inner = inside(alloc, env, name)?;
     define_all(alloc, r, inner.as_slice(), m.definitions.as_slice())
 }
