@@ -1,24 +1,13 @@
 //! The values of expressions.
 
 ghost use Rattle.std.specs.Prelude.{◌≡◌};
-ghost use Rattle.aoi.specs.declared.faults.NameFault.TheVariants.{Range};
 ghost use Rattle.idl_names.specs.Answers.{Gives};
 ghost use Rattle.front_mig.specs.Numbers.{leaf_value, value, length_of, base_of, ids_fit};
 
 use crate::{NameErr, NameFault};
 use idl_const::{binary, unary};
 use idl_exprs::{Expr, Leaf, Node};
-use idl_names::{in_range, natural, refuse};
-
-/// A number outside its range.
-pub(crate) fn range(decl: u32) -> NameErr
-    ensures { result ≡ record { fault = Range; decl = decl } }
-{
-    NameErr {
-        fault: NameFault::Range,
-        decl,
-    }
-}
+use idl_names::{fault, in_range, natural, refuse};
 
 /// The value of a leaf, which is a number in every tree of a file.
 fn leaf_value(decl: u32, leaf: &Leaf) -> Result<i128, NameErr>
@@ -26,7 +15,7 @@ fn leaf_value(decl: u32, leaf: &Leaf) -> Result<i128, NameErr>
 {
     match leaf {
         Leaf::Number(n) => Ok(*n),
-        _ => Err(range(decl)),
+        _ => Err(fault(NameFault::Range, decl)),
     }
 }
 

@@ -11,7 +11,7 @@ use crate::meaning::Scope;
 use crate::types::{data_in, type_of};
 use crate::{Meaning, NameErr, NameFault};
 use aoi::{Field, Fields};
-use idl_names::{Names, Use, refuse, ty_of_use};
+use idl_names::{Names, Use, fault, refuse, ty_of_use};
 use kit_base::{Name, NoMemory};
 use mig_syntax::{Direction, Parameter};
 use std::alloc::Global;
@@ -107,10 +107,7 @@ fn parameter(
     refuse(NameFault::Oneway, decl, simple && comes_out(p.direction))?;
     refuse(NameFault::Port, decl, is_requestport(p.direction))?;
     if names.has(name) {
-        return Err(NameErr {
-            fault: NameFault::Twice,
-            decl,
-        });
+        return Err(fault(NameFault::Twice, decl));
     }
     let used = data_in(decl, type_of(scope, decl, p.of.as_slice())?)?;
     names.push(alloc, name)?;
@@ -151,10 +148,7 @@ pub(crate) fn parameters(
         (parameters scope.now decl simple list.now) }
 {
     let [first, rest @ ..] = list else {
-        return Err(NameErr {
-            fault: NameFault::Port,
-            decl,
-        });
+        return Err(fault(NameFault::Port, decl));
     };
     let mut names = port(alloc, scope, decl, simple, first)?;
     let mut ins = Fields::new(alloc);

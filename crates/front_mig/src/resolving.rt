@@ -1,6 +1,6 @@
 //! The unit of a file.
 
-ghost use Rattle.std.specs.Prelude.{◌≡◌, ◌⊎◌, ◌+◌, IfOk, IfErr, Ok, Err};
+ghost use Rattle.std.specs.Prelude.{◌≡◌, ◌⊎◌, IfOk, IfErr, Ok, Err};
 ghost use Rattle.aoi.specs.Plain.{plain};
 ghost use Rattle.aoi.specs.Sound.{IsSound};
 ghost use Rattle.aoi.specs.declared.faults.NameFault.TheVariants.{NoMemory as OutOfMemory};
@@ -13,20 +13,9 @@ use crate::numbers::base_of;
 use crate::routines::{routine, type_};
 use crate::state::Resolver;
 use aoi::Unit;
-use idl_names::want;
+use idl_names::next_decl;
 use mig_syntax::{Statement, Tree};
 use std::alloc::Global;
-
-/// The number of the next declaration.
-fn next(decl: u32) -> Result<u32, NameErr>
-    ensures ok { IfOk result (λ d. d ≡ decl + 1) }
-    ensures err { IfErr result (λ e. e.fault ≡ OutOfMemory) }
-{
-    match decl.checked_add(1) {
-        Some(next) => Ok(next),
-        None => Err(want()),
-    }
-}
 
 /// A statement, by its number among the declarations.
 fn state_one(
@@ -55,7 +44,7 @@ fn state_all(alloc: Global, r: &mut Resolver, base: u32, list: &[Statement]) -> 
 {
     let mut decl = 1u32;
     for statement in list {
-        decl = next(decl)?;
+        decl = next_decl(decl)?;
         state_one(alloc, r, decl, base, statement)?;
     }
     Ok(())

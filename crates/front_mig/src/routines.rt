@@ -16,7 +16,7 @@ use crate::state::Resolver;
 use crate::types::form;
 use crate::{Form, NameErr, NameFault};
 use aoi::{Fields, Operation, Raises, Ty};
-use idl_names::{Tag, array_of, tag_of_use, ty_of_use};
+use idl_names::{Tag, array_of, fault, tag_of_use, ty_of_use};
 use kit_base::limits::MOST_OPERATIONS;
 use kit_base::{Name, NoMemory};
 use kit_shared::Shared;
@@ -50,10 +50,7 @@ pub(crate) fn type_(
     ensures { Gives (λ _. state r.new) result (type_on decl (state r.old) name.now t.now) }
 {
     if r.scope().has(name) {
-        return Err(NameErr {
-            fault: NameFault::Twice,
-            decl,
-        });
+        return Err(fault(NameFault::Twice, decl));
     }
     let form = form(r.scope(), decl, t)?;
     declare(alloc, r, name, form)
@@ -97,18 +94,12 @@ pub(crate) fn routine(
 {
     let name = routine.name.as_slice();
     if r.has_routine(name) {
-        return Err(NameErr {
-            fault: NameFault::Twice,
-            decl,
-        });
+        return Err(fault(NameFault::Twice, decl));
     }
     let slot = r.take_slot(decl, base)?;
     let place = r.routine_count();
     if place >= MOST_OPERATIONS {
-        return Err(NameErr {
-            fault: NameFault::Limit,
-            decl,
-        });
+        return Err(fault(NameFault::Limit, decl));
     }
     let list = routine.parameters.as_slice();
     let (ins, outs) = parameters(alloc, r.scope(), decl, routine.simple, list)?;

@@ -13,10 +13,9 @@ ghost use Rattle.front_mig.specs.Routines.{with_routine};
 ghost use Rattle.front_mig.specs.State.{start, declared, with_type, skip_on};
 
 use crate::meaning::Scope;
-use crate::numbers::range;
-use crate::{Meaning, NameErr};
-use aoi::{FullName, Interface, Operation, Operations, Ty, Unit, UnitErr};
-use idl_names::{Names, Tag, Use, want};
+use crate::{Meaning, NameErr, NameFault};
+use aoi::{Interface, Operation, Operations, Ty, Unit, UnitErr};
+use idl_names::{Names, Tag, Use, add_type, fault, want};
 use kit_base::{Name, NoMemory};
 use kit_shared::Shared;
 use std::alloc::Global;
@@ -93,12 +92,7 @@ impl Resolver {
         ensures ok { OnOk result (state self.new ≡ with_type name.now (seen ty) tag (state self.old)) }
         ensures err { IfErr result (λ e. e.fault ≡ OutOfMemory) }
     {
-        if self.unit.types().len() > u32::MAX as usize {
-            return Err(want());
-        }
-        let k = self
-            .unit
-            .add_type(FullName::of(Name::from_slice(alloc, name)?), ty)?;
+        let k = add_type(alloc, &mut self.unit, name, ty)?;
         self.scope
             .declare(alloc, name, Meaning::Data(Use::Declared(k, tag)))?;
         Ok(())
@@ -131,7 +125,7 @@ impl Resolver {
             self.slots = slot + 1;
             return Ok(slot);
         }
-        Err(range(decl))
+        Err(fault(NameFault::Range, decl))
     }
 
     /// Appends a routine.

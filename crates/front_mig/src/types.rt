@@ -10,7 +10,7 @@ use crate::meaning::Scope;
 use crate::numbers::{length_of, value};
 use crate::{Form, Meaning, NameErr, NameFault};
 use idl_exprs::Expr;
-use idl_names::{Tag, Use, refuse, tag_of_use};
+use idl_names::{Tag, Use, fault, refuse, tag_of_use};
 use mig_syntax::TypeForm;
 use mint::kind::{Count, Kind};
 
@@ -20,10 +20,7 @@ fn found(decl: u32, meaning: Option<Meaning>) -> Result<Meaning, NameErr>
 {
     match meaning {
         Some(meaning) => Ok(meaning),
-        None => Err(NameErr {
-            fault: NameFault::Unknown,
-            decl,
-        }),
+        None => Err(fault(NameFault::Unknown, decl)),
     }
 }
 
@@ -62,10 +59,7 @@ fn kind_in(decl: u32, tag: Tag) -> Result<Kind, NameErr>
 {
     match tag {
         Tag::Number(kind) => Ok(kind),
-        Tag::Enum(_) | Tag::Other => Err(NameErr {
-            fault: NameFault::OutOfScope,
-            decl,
-        }),
+        Tag::Enum(_) | Tag::Other => Err(fault(NameFault::OutOfScope, decl)),
     }
 }
 
@@ -85,10 +79,7 @@ pub(crate) fn data_in(decl: u32, meaning: Meaning) -> Result<Use, NameErr>
     ensures exact { result ≡ data_in decl meaning }
 {
     match meaning {
-        Meaning::Port => Err(NameErr {
-            fault: NameFault::OutOfScope,
-            decl,
-        }),
+        Meaning::Port => Err(fault(NameFault::OutOfScope, decl)),
         Meaning::Data(used) => Ok(used),
     }
 }

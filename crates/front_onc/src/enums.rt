@@ -1,6 +1,6 @@
 //! Enums.
 
-ghost use Rattle.std.specs.Prelude.{◌≡◌, [], None, false, IfOk};
+ghost use Rattle.std.specs.Prelude.{◌≡◌, [], None, false};
 ghost use Rattle.idl_names.specs.Answers.{Gives};
 ghost use Rattle.front_onc.specs.Held.{state};
 ghost use Rattle.front_onc.specs.Enums.{next, item_number, short, item_on, items_on, is_item, enum_on};
@@ -10,8 +10,7 @@ use crate::state::Resolver;
 use crate::values::value;
 use crate::{Meaning, NameErr, NameFault, Tag};
 use aoi::Items;
-use idl_names::enum_of;
-use kit_base::{Name, NoMemory};
+use idl_names::{enum_of, fault, item_of};
 use onc_syntax::{Item, Value};
 use std::alloc::Global;
 
@@ -48,10 +47,7 @@ fn short(d: u32, n: i128) -> Result<i32, NameErr>
 {
     match i32::try_from(n) {
         Ok(n) => Ok(n),
-        Err(_) => Err(NameErr {
-            fault: NameFault::Range,
-            decl: d,
-        }),
+        Err(_) => Err(fault(NameFault::Range, d)),
     }
 }
 
@@ -69,22 +65,12 @@ fn item(
 {
     let name = item.name.as_slice();
     if r.scope().has(name) {
-        return Err(NameErr {
-            fault: NameFault::Twice,
-            decl: d,
-        });
+        return Err(fault(NameFault::Twice, d));
     }
     let n = short(d, item_number(r.scope(), d, previous, &item.value)?)?;
     r.label(d, k, place, i128::from(n))?;
     r.declare(alloc, name, Meaning::Constant(i128::from(n)))?;
     Ok(n)
-}
-
-/// An item of a type.
-fn owned(alloc: Global, name: &[u8], n: i32) -> Result<(Name, i32), NoMemory>
-    ensures { IfOk result (λ i. i ≡ (name.now, n)) }
-{
-    Ok((Name::from_slice(alloc, name)?, n))
 }
 
 /// Declares the items of an enum, and gives them with their numbers.
@@ -103,7 +89,7 @@ fn items(
     let mut previous = None;
     for i in list {
         let n = item(alloc, r, d, k, place, previous, i)?;
-        items.push(owned(alloc, i.name.as_slice(), n)?)?;
+        items.push(item_of(alloc, i.name.as_slice(), n)?)?;
         previous = Some(n);
     }
     Ok(items)
@@ -132,10 +118,7 @@ pub(crate) fn enum_(
     ensures { Gives (λ _. state r.new) result (enum_on d (state r.old) name.now list.now) }
 {
     if r.scope().has(name) || is_item(name, list) {
-        return Err(NameErr {
-            fault: NameFault::Twice,
-            decl: d,
-        });
+        return Err(fault(NameFault::Twice, d));
     }
     let k = r.next_type()?;
     let place = r.count_labels();

@@ -13,7 +13,7 @@ use crate::state::Resolver;
 use crate::values::{number_of, type_use};
 use crate::{NameErr, NameFault};
 use aoi::{Field, Fields, Operation, Operations, Raises, Ty};
-use idl_names::{Names, add_number, has_number, refuse, ty_of_use};
+use idl_names::{Names, add_number, fault, has_number, refuse, ty_of_use};
 use indexmap::IndexSet;
 use kit_base::limits::MOST_OPERATIONS;
 use kit_base::{Name, NoMemory};
@@ -40,10 +40,7 @@ fn parameter(scope: &Scope, d: u32, t: &ProcType) -> Result<Ty, NameErr>
     ensures stop { IfErr result (λ e. parameter scope.now d t.now ≡ Err e) }
 {
     match t {
-        ProcType::Void => Err(NameErr {
-            fault: NameFault::OutOfScope,
-            decl: d,
-        }),
+        ProcType::Void => Err(fault(NameFault::OutOfScope, d)),
         ProcType::Text => Ok(Ty::Text(Count::Any)),
         ProcType::Plain(t) => Ok(ty_of_use(type_use(scope, d, t)?)),
     }
@@ -142,25 +139,16 @@ fn procedure(
     let name = p.name.as_slice();
     let ty = result_of(scope, d, &p.result)?;
     if names.has(name) {
-        return Err(NameErr {
-            fault: NameFault::Twice,
-            decl: d,
-        });
+        return Err(fault(NameFault::Twice, d));
     }
     let place = ops.len();
     if place >= MOST_OPERATIONS {
-        return Err(NameErr {
-            fault: NameFault::Limit,
-            decl: d,
-        });
+        return Err(fault(NameFault::Limit, d));
     }
     let ins = parameters(alloc, scope, d, p.parameters.as_slice())?;
     let n = number_of(scope, d, &p.number)?;
     if has_number(numbers, n) {
-        return Err(NameErr {
-            fault: NameFault::Twice,
-            decl: d,
-        });
+        return Err(fault(NameFault::Twice, d));
     }
     names.push(alloc, name)?;
     add_number(numbers, n)?;

@@ -13,7 +13,7 @@ use crate::state::Resolver;
 use crate::values::number_of;
 use crate::{Meaning, NameErr, NameFault};
 use aoi::{Interface, Operations};
-use idl_names::{Names, refuse, want};
+use idl_names::{Names, fault, refuse, want};
 use kit_base::limits::MOST_INTERFACES;
 use kit_base::{Name, NoMemory};
 use kit_shared::Shared;
@@ -98,16 +98,10 @@ fn version(
 {
     let name = v.name.as_slice();
     if names.has(name) {
-        return Err(NameErr {
-            fault: NameFault::Twice,
-            decl: d,
-        });
+        return Err(fault(NameFault::Twice, d));
     }
     if r.versions() >= MOST_INTERFACES {
-        return Err(NameErr {
-            fault: NameFault::Limit,
-            decl: d,
-        });
+        return Err(fault(NameFault::Limit, d));
     }
     let ops = operations(alloc, r, v.procedures.as_slice())?;
     let n = number_of(r.scope(), d, &v.number)?;
@@ -157,10 +151,7 @@ pub(crate) fn program(
     ensures { Gives (λ _. state r.new) result (program_on d (state r.old) name.now list.now v.now) }
 {
     if r.scope().has(name) {
-        return Err(NameErr {
-            fault: NameFault::Twice,
-            decl: d,
-        });
+        return Err(fault(NameFault::Twice, d));
     }
     let number = number_of(r.scope(), d, v);
     versions(alloc, r, name, given(&number), list)?;

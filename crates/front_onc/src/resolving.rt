@@ -21,6 +21,7 @@ use crate::unions::union_;
 use crate::values::value;
 use crate::{Meaning, NameErr, NameFault, Use};
 use aoi::Unit;
+use idl_names::fault;
 use kit_base::NoMemory;
 use mint::kind::Kind;
 use onc_syntax::{Def, Tree, Value};
@@ -48,10 +49,7 @@ fn constant(alloc: Global, r: &mut Resolver, d: u32, name: &[u8], v: &Value) -> 
     ensures { Gives (λ _. state r.new) result (const_on d (state r.old) name.now v.now) }
 {
     if r.scope().has(name) {
-        return Err(NameErr {
-            fault: NameFault::Twice,
-            decl: d,
-        });
+        return Err(fault(NameFault::Twice, d));
     }
     let n = value(r.scope(), d, v)?;
     r.declare(alloc, name, Meaning::Constant(n))

@@ -15,10 +15,10 @@ ghost use Rattle.aoi.specs.declared.faults.NameFault.TheVariants.{NoMemory as Ou
 
 use crate::meaning::Scope;
 use crate::{Meaning, NameErr, NameFault, Tag, Use};
-use aoi::{FullName, Interface, Ty, Unit, UnitErr};
-use idl_names::{add_label, want};
+use aoi::{Interface, Ty, Unit, UnitErr};
+use idl_names::{add_label, add_type, count_of, fault, next_decl, want};
 use indexmap::IndexSet;
-use kit_base::{Name, NoMemory};
+use kit_base::NoMemory;
 use std::alloc::Global;
 use std::marker::Model;
 
@@ -78,13 +78,9 @@ impl Resolver {
         ensures versions { self.new.versions ≡ self.old.versions }
         ensures err { IfErr result (λ e. e.fault ≡ OutOfMemory) }
     {
-        match self.count.checked_add(1) {
-            Some(n) => {
-                self.count = n;
-                Ok(n)
-            }
-            None => Err(want()),
-        }
+        let n = next_decl(self.count)?;
+        self.count = n;
+        Ok(n)
     }
 
     /// Declares a name.
@@ -114,12 +110,7 @@ impl Resolver {
         ensures ok { OnOk result (state self.new ≡ with_type name.now (seen ty) tag (state self.old)) }
         ensures err { IfErr result (λ e. e.fault ≡ OutOfMemory) }
     {
-        if self.unit.types().len() > u32::MAX as usize {
-            return Err(want());
-        }
-        let k = self
-            .unit
-            .add_type(FullName::of(Name::from_slice(alloc, name)?), ty)?;
+        let k = add_type(alloc, &mut self.unit, name, ty)?;
         self.scope
             .declare(alloc, name, Meaning::Type(Use::Declared(k, tag)))?;
         Ok(())
@@ -130,10 +121,7 @@ impl Resolver {
         ensures ok { IfOk result (λ k. k ≡ length self.now.unit.types) }
         ensures err { IfErr result (λ e. e.fault ≡ OutOfMemory) }
     {
-        match u32::try_from(self.unit.types().len()) {
-            Ok(k) => Ok(k),
-            Err(_) => Err(want()),
-        }
+        count_of(self.unit.types().len())
     }
 
     /// How many numbers the enums have.
@@ -185,10 +173,7 @@ impl Resolver {
                 self.versions += 1;
                 Ok(())
             }
-            Err(UnitErr::Twice) => Err(NameErr {
-                fault: NameFault::Twice,
-                decl: d,
-            }),
+            Err(UnitErr::Twice) => Err(fault(NameFault::Twice, d)),
             Err(UnitErr::Many) => unreachable!(),
             Err(UnitErr::NoMemory) => Err(want()),
         }

@@ -11,7 +11,7 @@ use crate::meaning::Scope;
 use crate::state::Resolver;
 use crate::{Form, NameErr, NameFault, Tag};
 use aoi::{Field, Fields};
-use idl_names::{Names, struct_of};
+use idl_names::{Names, fault, struct_of};
 use kit_base::{Name, NoMemory};
 use onc_syntax::{Decl, Member};
 use std::alloc::Global;
@@ -66,10 +66,7 @@ pub(crate) fn struct_(
     ensures { Gives (λ _. state r.new) result (struct_on number (state r.old) name.now list.now) }
 {
     if r.scope().has(name) {
-        return Err(NameErr {
-            fault: NameFault::Twice,
-            decl: number,
-        });
+        return Err(fault(NameFault::Twice, number));
     }
     let fields = members(alloc, r.scope(), number, list)?;
     r.declare_type(alloc, name, struct_of(fields), Tag::Other)

@@ -14,7 +14,9 @@ use crate::state::Resolver;
 use crate::values::{type_use, value};
 use crate::{Form, NameErr, NameFault, Tag, Use};
 use aoi::{Ty, UnionArms};
-use idl_names::{Names, add_number_of, after, boxed, refuse, tag_of_use, ty_of_use, union_of};
+use idl_names::{
+    Names, add_number_of, after, boxed, fault, refuse, tag_of_use, ty_of_use, union_of,
+};
 use indexmap::IndexSet;
 use kit_base::NoMemory;
 use onc_syntax::{Arm, Case, Label, Union};
@@ -184,10 +186,7 @@ pub(crate) fn union_(alloc: Global, r: &mut Resolver, d: u32, u: &Union) -> Resu
 {
     let name = u.name.as_slice();
     if r.scope().has(name) {
-        return Err(NameErr {
-            fault: NameFault::Twice,
-            decl: d,
-        });
+        return Err(fault(NameFault::Twice, d));
     }
     let used = type_use(r.scope(), d, &u.tag)?;
     let ty = body(alloc, r, d, used, u)?;

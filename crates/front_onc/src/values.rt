@@ -8,7 +8,7 @@ ghost use Rattle.front_onc.specs.Programs.{number_of};
 
 use crate::meaning::Scope;
 use crate::{Meaning, NameErr, NameFault, Use};
-use idl_names::natural;
+use idl_names::{fault, natural};
 use mint::kind::{Count, Kind};
 use onc_syntax::{IntWord, TypeName, Value};
 
@@ -33,10 +33,7 @@ fn signed(decl: u32, minus: bool, n: i128) -> Result<i128, NameErr>
     }
     match n.checked_neg() {
         Some(m) => Ok(m),
-        None => Err(NameErr {
-            fault: NameFault::Range,
-            decl,
-        }),
+        None => Err(fault(NameFault::Range, decl)),
     }
 }
 

@@ -5,7 +5,7 @@ ghost use Rattle.idl_names.specs.Answers.{Gives};
 ghost use Rattle.idl_names.specs.Labels.{is_label, is_of, labelled, numbered};
 
 use crate::numbers::{add_integer, has_integer};
-use crate::refusals::refuse;
+use crate::refusals::{fault, refuse};
 use crate::uses::Tag;
 use aoi::{NameErr, NameFault};
 use indexmap::IndexSet;
@@ -72,16 +72,10 @@ pub fn add_number_of(
     ensures { Gives (λ _. numbers.new.keys) result (numbered labels.now.keys tag d numbers.old.keys n) }
 {
     if !is_of(labels, tag, &n) || has_integer(numbers, &n) {
-        return Err(NameErr {
-            fault: NameFault::Label,
-            decl: d,
-        });
+        return Err(fault(NameFault::Label, d));
     }
     if numbers.len() >= MOST_LABELS {
-        return Err(NameErr {
-            fault: NameFault::Limit,
-            decl: d,
-        });
+        return Err(fault(NameFault::Limit, d));
     }
     add_integer(numbers, &n)?;
     Ok(())

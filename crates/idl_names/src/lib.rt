@@ -12,7 +12,9 @@ mod uses;
 pub use labels::{add_label, add_number_of, is_label, is_of};
 pub use names::Names;
 pub use numbers::{add_integer, add_number, after, has_integer, has_number};
-pub use refusals::{in_range, natural, refuse, want};
+pub use refusals::{count_of, fault, in_range, natural, next_decl, refuse, want};
 pub use table::Table;
-pub use types::{array_of, arrays_of, boxed, enum_of, optional_of, struct_of, union_of};
+pub use types::{
+    add_type, array_of, arrays_of, boxed, enum_of, item_of, optional_of, struct_of, union_of,
+};
 pub use uses::{Tag, Use, tag_of_use, ty_of_use};

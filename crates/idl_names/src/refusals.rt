@@ -1,19 +1,45 @@
 //! Faults, and the numbers that are none.
 
-ghost use Rattle.std.specs.Prelude.{◌≡◌};
+ghost use Rattle.std.specs.Prelude.{◌≡◌, ◌+◌, IfOk, IfErr};
 ghost use Rattle.aoi.specs.declared.faults.NameFault.TheVariants.{NoMemory as OutOfMemory};
 ghost use Rattle.idl_names.specs.Answers.{Gives, in_range, natural, refused};
 
 use aoi::{NameErr, NameFault};
 use idl_const::ConstErr;
 
+/// A fault in a declaration.
+pub fn fault(what: NameFault, decl: u32) -> NameErr
+    ensures { result ≡ record { fault = what; decl = decl } }
+{
+    NameErr { fault: what, decl }
+}
+
 /// The fault of out of memory, which is in no declaration.
 pub fn want() -> NameErr
     ensures { result.fault ≡ OutOfMemory }
 {
-    NameErr {
-        fault: NameFault::NoMemory,
-        decl: 0,
+    fault(NameFault::NoMemory, 0)
+}
+
+/// A count as a number of 32 bits, if it is one.
+pub fn count_of(n: usize) -> Result<u32, NameErr>
+    ensures ok { IfOk result (λ k. k ≡ n) }
+    ensures err { IfErr result (λ e. e.fault ≡ OutOfMemory) }
+{
+    match u32::try_from(n) {
+        Ok(k) => Ok(k),
+        Err(_) => Err(want()),
+    }
+}
+
+/// The number of the next declaration.
+pub fn next_decl(decl: u32) -> Result<u32, NameErr>
+    ensures ok { IfOk result (λ d. d ≡ decl + 1) }
+    ensures err { IfErr result (λ e. e.fault ≡ OutOfMemory) }
+{
+    match decl.checked_add(1) {
+        Some(next) => Ok(next),
+        None => Err(want()),
     }
 }
 
@@ -34,10 +60,7 @@ pub fn natural(low: u32, decl: u32, n: i128) -> Result<u32, NameErr>
     ensures exact { result ≡ natural low decl n }
 {
     if n < i128::from(low) || 4294967295 < n {
-        return Err(NameErr {
-            fault: NameFault::Range,
-            decl,
-        });
+        return Err(fault(NameFault::Range, decl));
     }
     Ok(n as u32)
 }
@@ -49,9 +72,6 @@ pub fn in_range(decl: u32, given: Result<i128, ConstErr>) -> Result<i128, NameEr
 {
     match given {
         Ok(n) => Ok(n),
-        Err(_) => Err(NameErr {
-            fault: NameFault::Range,
-            decl,
-        }),
+        Err(_) => Err(fault(NameFault::Range, decl)),
     }
 }

@@ -8,6 +8,6 @@ pub loop-i-preserved : goal.loop-i-preserved
 loop-i-preserved c =
     let fits : SFits w32 c.in_ok-n.n = search rules in
     items_step c.args.d c.args.k c.args.place _ _ c.loop-i.items c.push.new.self c.loop-i.previous c.args.list.now c.loop-i.i-index
-    c.i-item.result _ c.in_ok-n.n _ c.in_ok-owned.field-0 _
+    c.i-item.result _ c.in_ok-n.n _ c.in_ok-item_of.field-0 _
     c.loop-i.invariant c.loop-i-test.true c.i-item.is c.in_ok-n.ensures (to_z-of_z w32 c.in_ok-n.n fits)
-    (c.in_ok-owned.ensures ∙ ap (λ z. (z, to_z w32 (of_z w32 c.in_ok-n.n))) c.as_slice.ensures) c.in_ok-push.ensures.ok
+    (c.in_ok-item_of.ensures ∙ ap (λ z. (z, to_z w32 (of_z w32 c.in_ok-n.n))) c.as_slice.ensures) c.in_ok-push.ensures.ok
