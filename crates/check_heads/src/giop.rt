@@ -1,11 +1,12 @@
 //! What the heads of GIOP messages say.
 
+use crate::faults::fault_of;
 use check_rows::{Bad, member, octets};
 use giop_head::{GiopCall, read_call, read_reply};
 use hex::encode;
 use serde_json::Value as Json;
 use std::alloc::Global;
-use wire_def::{Head, HeadErr, Order, ReplyHead, Status};
+use wire_def::{Head, Order, ReplyHead, Status};
 
 /// Digits, or a dash in place of none.
 fn digits(alloc: Global, octets: &[u8]) -> Result<String, Bad> {
@@ -88,21 +89,12 @@ fn locate_of(alloc: Global, version: &str, id: u32, key: &[u8]) -> Result<String
     Ok(format!(in alloc; "locate {version}{id} {key}")?)
 }
 
-/// The name of a fault.
-fn fault_of(alloc: Global, fault: HeadErr) -> Result<String, Bad> {
-    Ok(format!(in alloc; "{fault:?}")?)
-}
-
 /// What the head of the reply of a row says, or the first fault.
 pub fn reply(alloc: Global, row: &Json) -> Result<String, Bad> {
     let message = octets(alloc, member(row, "octets")?)?;
-    reply_said(alloc, message.as_slice())
-}
-
-/// What the head of a reply says, or the first fault.
-fn reply_said(alloc: Global, message: &[u8]) -> Result<String, Bad> {
-    match read_reply(message) {
-        Ok(reply) => fate(alloc, version_of(minor_in(message)), &reply),
+    let version = version_of(minor_in(message.as_slice()));
+    match read_reply(message.as_slice()) {
+        Ok(reply) => fate(alloc, version, &reply),
         Err(fault) => fault_of(alloc, fault),
     }
 }

@@ -1,27 +1,18 @@
 //! What the heads of Mach messages say, and the replies that refuse a request.
 
+use crate::faults::fault_of;
 use back_mach::{put_refusal, read_call, read_reply};
 use check_rows::{Bad, member, octets, signed, word};
 use hex::encode;
 use raw_buf::SendBuf;
 use serde_json::Value as Json;
 use std::alloc::Global;
-use wire_def::{Head, HeadErr, Order, Refusal, ReplyHead, Status};
-
-/// The name of a fault.
-fn fault_of(alloc: Global, fault: HeadErr) -> Result<String, Bad> {
-    Ok(format!(in alloc; "{fault:?}")?)
-}
+use wire_def::{Head, Order, Refusal, ReplyHead, Status};
 
 /// What the head of the request of a row says, or the first fault.
 pub fn call(alloc: Global, row: &Json) -> Result<String, Bad> {
     let message = octets(alloc, member(row, "octets")?)?;
-    call_said(alloc, message.as_slice())
-}
-
-/// What the head of a request says, or the first fault.
-fn call_said(alloc: Global, message: &[u8]) -> Result<String, Bad> {
-    match read_call(message) {
+    match read_call(message.as_slice()) {
         Ok(call) => request_of(alloc, call.id, &call.head, call.used),
         Err(fault) => fault_of(alloc, fault),
     }

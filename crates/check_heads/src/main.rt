@@ -4,6 +4,7 @@
 #![tactic(auto)]
 
 mod answers;
+mod faults;
 mod giop;
 mod interfaces;
 mod mach;

@@ -12,7 +12,7 @@ use Rattle.mint.specs.declared.node.Node.{Node}
 use Rattle.mint.specs.Kinds.{width}
 use Rattle.cast_stub.specs.Parts.{on_some}
 use Rattle.cast_stub.specs.declared.send.SendOp.{SendOp}
-use Rattle.cast_stub.specs.Block.{Cases, Piece, chunk, each, ensure_row, if_there, row_wide, switch, op_seen, code_seen, cases_seen}
+use Rattle.cast_stub.specs.Block.{Block, Cases, Piece, chunk, each, ensure_row, if_there, row_copy, row_swap, row_wide, switch, op_seen, code_seen, cases_seen}
 use Rattle.stub_flat.specs.Places.{Spot, node_of, spot_at, element, present, has_length, row_kind, arm_spot, rest_spot}
 use Rattle.stub_flat.specs.Residues.{Residues, none, sum, moved, closed, single_first, size_first}
 use Rattle.stub_flat.specs.Leaves.{leaves, ways_leave, width_of}
@@ -155,66 +155,62 @@ switch_put N s p cs None S old mid new first put =
 
 -- ---- rows
 
+-- the image of a row in an order, whose numbers are so wide
+module _ (N : List Node) (s : Spot) (p : List ℕ) (order : Order) (image : Piece) (w : Option Kind → ℕ) (S : Residues) where
+  abbrev kind : Option Kind
+  kind = row_kind (node_of N (spot_at N p s))
+
+  abbrev after : Residues
+  after = closed (moved (w kind)) S
+
+  -- what is left of it is the row, and what is left behind it
+  abbrev IsImage : Type 0
+  IsImage = (r : Block) → (items N s (image r) S ≡ provided (is_some kind) (option_map (row_items p (w kind) order) (items N s r after)))
+      × (leaves N s (image r) S ≡ leaves N s r after)
+
+  image_put : IsImage → (k : Kind) (T : List Bool) (old new : List ℕ) → kind ≡ Some k → Agree (set_of T) (closed (moved (w (Some k))) S)
+      → ((i : Items) (rest : List ℕ) → old ++ items_text (row_items p (w (Some k)) order i) rest ≡ new ++ items_text i rest)
+      → IsOpPut (Some T) N s image S old new
+  image_put left k T old new is same h =
+      let all : Agree (set_of T) after = λ q lt. same q lt ∙ ap (λ (x : Option Kind). closed (moved (w x)) S q) (sym is) in
+      record {
+        put = λ r. subst (λ (z : Option Items). IsLed items_text z (items N s r (set_of T)) old new) (sym (left r).0)
+            (where_agree N s r after (set_of T) true (provided (is_some kind) (option_map (row_items p (w kind) order) (items N s r after)))
+            old new all (row_led kind k (λ x. row_items p (w kind) order) (items N s r after) old new is
+            (λ i rest. ap (λ (x : Option Kind). old ++ items_text (row_items p (w x) order i) rest) is ∙ h i rest)));
+        behind = λ e r. subst (Agree (leaves N s r (set_of T))) (sym (left r).1) (leaves_agree N s r after (set_of T) all);
+      }
+
+  image_nothing : IsImage → (old : List ℕ) → kind ≡ None → IsOpPut None N s image S old old
+  image_nothing left old is = record {
+    put = λ r. (left r).0 ∙ row_absent kind (option_map (row_items p (w kind) order) (items N s r after)) is;
+    behind = λ e. absurd (cc);
+  }
+
 pub row_put_there : (N : List Node) (s : Spot) (p : List ℕ) (order : Order) (k : Kind) (T : List Bool) (S : Residues) (old new : List ℕ)
     → row_kind (node_of N (spot_at N p s)) ≡ Some k → Agree (set_of T) (closed (moved (width k)) S)
     → ((i : Items) (rest : List ℕ) → old ++ items_text (row_items p (width k) order i) rest ≡ new ++ items_text i rest)
     → IsOpPut (Some T) N s (row_piece order p) S old new
 row_put_there N s p Little k T S old new is same h =
-    let kind = row_kind (node_of N (spot_at N p s)) in
-    let C = closed (moved (width_of kind)) S in
-    let all : Agree (set_of T) C = λ q lt. same q lt ∙ ap (λ (x : Option Kind). closed (moved (width_of x)) S q) (sym is) in
-    record {
-      put = λ r. where_agree N s r C (set_of T) true (provided (is_some kind)
-          (option_map (row_items p (width_of kind) Little) (items N s r C)))
-          old new all (row_led kind k (λ w. row_items p w Little) (items N s r C) old new is h);
-      behind = λ e r. leaves_agree N s r C (set_of T) all;
-    }
+    image_put N s p Little (row_copy p) width_of S (λ r. (refl, refl)) k T old new is same h
 row_put_there N s p Big k T S old new is same h =
-    let kind = row_kind (node_of N (spot_at N p s)) in
-    let C = closed (moved (width_of kind)) S in
-    let all : Agree (set_of T) C = λ q lt. same q lt ∙ ap (λ (x : Option Kind). closed (moved (width_of x)) S q) (sym is) in
-    record {
-      put = λ r. where_agree N s r C (set_of T) true (provided (is_some kind)
-          (option_map (row_items p (width_of kind) Big) (items N s r C)))
-          old new all (row_led kind k (λ w. row_items p w Big) (items N s r C) old new is h);
-      behind = λ e r. leaves_agree N s r C (set_of T) all;
-    }
+    image_put N s p Big (row_swap p) width_of S (λ r. (refl, refl)) k T old new is same h
 
 pub row_nothing : (N : List Node) (s : Spot) (p : List ℕ) (order : Order) (S : Residues) (old : List ℕ)
     → row_kind (node_of N (spot_at N p s)) ≡ None → IsOpPut None N s (row_piece order p) S old old
-row_nothing N s p Little S old is =
-    let kind = row_kind (node_of N (spot_at N p s)) in
-    record {
-      put = λ r. row_absent kind (option_map (row_items p (width_of kind) Little) (items N s r (closed (moved (width_of kind)) S))) is;
-      behind = λ e. absurd (cc);
-    }
-row_nothing N s p Big S old is =
-    let kind = row_kind (node_of N (spot_at N p s)) in
-    record {
-      put = λ r. row_absent kind (option_map (row_items p (width_of kind) Big) (items N s r (closed (moved (width_of kind)) S))) is;
-      behind = λ e. absurd (cc);
-    }
+row_nothing N s p Little S old is = image_nothing N s p Little (row_copy p) width_of S (λ r. (refl, refl)) old is
+row_nothing N s p Big S old is = image_nothing N s p Big (row_swap p) width_of S (λ r. (refl, refl)) old is
 
 pub wide_put_there : (N : List Node) (s : Spot) (p : List ℕ) (order : Order) (k : Kind) (T : List Bool) (S : Residues) (old new : List ℕ)
     → row_kind (node_of N (spot_at N p s)) ≡ Some k → Agree (set_of T) (closed (moved 4) S)
     → ((i : Items) (rest : List ℕ) → old ++ items_text (row_items p 4 order i) rest ≡ new ++ items_text i rest)
     → IsOpPut (Some T) N s (row_wide p order) S old new
 wide_put_there N s p order k T S old new is same h =
-    let kind = row_kind (node_of N (spot_at N p s)) in
-    let C = closed (moved 4) S in
-    record {
-      put = λ r. where_agree N s r C (set_of T) true (provided (is_some kind)
-          (option_map (row_items p 4 order) (items N s r C))) old new same
-          (row_led kind k (λ w. row_items p 4 order) (items N s r C) old new is h);
-      behind = λ e r. leaves_agree N s r C (set_of T) same;
-    }
+    image_put N s p order (row_wide p order) (λ x. 4) S (λ r. (refl, refl)) k T old new is same h
 
 pub wide_nothing : (N : List Node) (s : Spot) (p : List ℕ) (order : Order) (S : Residues) (old : List ℕ)
     → row_kind (node_of N (spot_at N p s)) ≡ None → IsOpPut None N s (row_wide p order) S old old
-wide_nothing N s p order S old is = record {
-  put = λ r. row_absent (row_kind (node_of N (spot_at N p s))) (option_map (row_items p 4 order) (items N s r (closed (moved 4) S))) is;
-  behind = λ e. absurd (cc);
-}
+wide_nothing N s p order S old is = image_nothing N s p order (row_wide p order) (λ x. 4) S (λ r. (refl, refl)) old is
 
 -- ---- bodies of a switch
 

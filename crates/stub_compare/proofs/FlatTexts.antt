@@ -22,6 +22,14 @@ pub record Same {A : Type 0} (a b : A) (k l : List ℕ) : Type 0 where
   pub is : a ≡ b
   pub behind : k ≡ l
 
+-- what is made of three things is the same where each is, one after another
+three_same : {A B C D : Type 0} (make : A → B → C → D) (p q : A) (x y : B) (i j : C) (a b c d k l : List ℕ) → Same p q a b
+    → (a ≡ b → Same x y c d) → (c ≡ d → Same i j k l) → Same (make p x i) (make q y j) k l
+three_same make p q x y i j a b c d k l s second third =
+    let t = second s.behind in
+    let u = third t.behind in
+    record { is = ap (λ z. make z x i) s.is ∙ ap (λ z. make q z i) t.is ∙ ap (λ z. make q y z) u.is; behind = u.behind }
+
 path_same : (p q k l : List ℕ) → path_text p k ≡ path_text q l → Same p q k l
 path_same [] [] k l e = record { is = refl; behind = ap rest e }
 path_same [] (m ∷ q) k l e = absurd (let d : 0 ≡ 1 = ap first e in omega arith)
@@ -143,29 +151,21 @@ mutual
   items_same (zeros a i) (octet (part s m) j) k l e = absurd (omega (arith, ap first e))
   items_same (zeros a i) b k l e = absurd (omega (arith, ap first e))
   items_same (loop p x i) (loop q y j) k l e =
-      let s = path_same p q (items_text x (items_text i k)) (items_text y (items_text j l)) (ap rest e) in
-      let t = items_same x y (items_text i k) (items_text j l) s.behind in
-      let u = items_same i j k l t.behind in
-      record { is = ap (λ z. loop z x i) s.is ∙ ap (λ z. loop q z i) t.is ∙ ap (λ z. loop q y z) u.is; behind = u.behind }
+      three_same loop p q x y i j _ _ _ _ k l (path_same p q (items_text x (items_text i k)) (items_text y (items_text j l)) (ap rest e))
+      (items_same x y (items_text i k) (items_text j l)) (items_same i j k l)
   items_same (loop p x i) (octet (fixed m) j) k l e = absurd (omega (arith, ap first e))
   items_same (loop p x i) (octet (part s m) j) k l e = absurd (omega (arith, ap first e))
   items_same (loop p x i) b k l e = absurd (omega (arith, ap first e))
   items_same (ways p x i) (ways q y j) k l e =
-      let s = path_same p q (ways_text x (items_text i k)) (ways_text y (items_text j l)) (ap rest e) in
-      let t = ways_same x y (items_text i k) (items_text j l) s.behind in
-      let u = items_same i j k l t.behind in
-      record { is = ap (λ z. ways z x i) s.is ∙ ap (λ z. ways q z i) t.is ∙ ap (λ z. ways q y z) u.is; behind = u.behind }
+      three_same ways p q x y i j _ _ _ _ k l (path_same p q (ways_text x (items_text i k)) (ways_text y (items_text j l)) (ap rest e))
+      (ways_same x y (items_text i k) (items_text j l)) (items_same i j k l)
   items_same (ways p x i) (octet (fixed m) j) k l e = absurd (omega (arith, ap first e))
   items_same (ways p x i) (octet (part s m) j) k l e = absurd (omega (arith, ap first e))
   items_same (ways p x i) b k l e = absurd (omega (arith, ap first e))
   items_same (if_present p x i) (if_present q y j) k l e =
-      let s = path_same p q (items_text x (items_text i k)) (items_text y (items_text j l)) (ap rest e) in
-      let t = items_same x y (items_text i k) (items_text j l) s.behind in
-      let u = items_same i j k l t.behind in
-      record {
-        is = ap (λ z. if_present z x i) s.is ∙ ap (λ z. if_present q z i) t.is ∙ ap (λ z. if_present q y z) u.is;
-        behind = u.behind;
-      }
+      three_same if_present p q x y i j _ _ _ _ k l
+      (path_same p q (items_text x (items_text i k)) (items_text y (items_text j l)) (ap rest e))
+      (items_same x y (items_text i k) (items_text j l)) (items_same i j k l)
   items_same (if_present p x i) (octet (fixed m) j) k l e = absurd (omega (arith, ap first e))
   items_same (if_present p x i) (octet (part s m) j) k l e = absurd (omega (arith, ap first e))
   items_same (if_present p x i) b k l e = absurd (omega (arith, ap first e))
@@ -197,10 +197,8 @@ mutual
       let s = items_same x y k l (ap rest e) in record { is = ap other s.is; behind = s.behind }
   ways_same (other x) b k l e = absurd (omega (arith, ap first e))
   ways_same (way m x a) (way n y b) k l e =
-      let s = integer_same m n (items_text x (ways_text a k)) (items_text y (ways_text b l)) (ap rest e) in
-      let t = items_same x y (ways_text a k) (ways_text b l) s.behind in
-      let u = ways_same a b k l t.behind in
-      record { is = ap (λ z. way z x a) s.is ∙ ap (λ z. way n z a) t.is ∙ ap (λ z. way n y z) u.is; behind = u.behind }
+      three_same way m n x y a b _ _ _ _ k l (integer_same m n (items_text x (ways_text a k)) (items_text y (ways_text b l)) (ap rest e))
+      (items_same x y (ways_text a k) (ways_text b l)) (ways_same a b k l)
   ways_same (way m x a) b k l e = absurd (omega (arith, ap first e))
 
 list_same : (a b : List Items) (k l : List ℕ) → list_text a k ≡ list_text b l → Same a b k l

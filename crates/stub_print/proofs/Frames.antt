@@ -117,14 +117,23 @@ module _ (K : Trees) (P : Type 0) (T : Texts K P) (step : Line → List (Frame K
   BodyRead a = (rest : List ℕ) (fs : Frames) → read step rest ≡ frame stop no_default [] [] ∷ fs
       → read step (text a rest) ≡ frame a no_default [] [] ∷ fs
 
+  -- an operation whose line is followed by what it holds, and by a line that ends this
+  read_ended : (w p : List ℕ) (held : List ℕ → List ℕ) (top now : Frame Tree Bodies P) (b : Tree) (rest : List ℕ) (cs : Bodies)
+      (ps : List P) (ss : List Tree) (fs : Frames) → IsClean w
+      → ((r : List ℕ) (gs : Frames) → read step r ≡ frame stop no_default [] [] ∷ gs → read step (held r) ≡ top ∷ gs)
+      → read step (text b rest) ≡ frame b cs ps ss ∷ fs
+      → step (w ∷ path_word p ∷ []) (top ∷ frame b cs ps ss ∷ fs) ≡ now ∷ fs
+      → read step (line w (path_word p ∷ []) (held (ended (text b rest)))) ≡ now ∷ fs
+  read_ended w p held top now b rest cs ps ss fs clean body e at =
+      read_line step w (path_word p ∷ []) (held (ended (text b rest))) (top ∷ frame b cs ps ss ∷ fs) (now ∷ fs) clean (clean_path p, tt)
+      (body (ended (text b rest)) (frame b cs ps ss ∷ fs) (read_end (text b rest) (frame b cs ps ss ∷ fs) e)) at
+
   pub read_each : (p : List ℕ) (a b : Tree) (rest : List ℕ) (cs : Bodies) (ps : List P) (ss : List Tree) (fs : Frames) → BodyRead a
       → read step (text b rest) ≡ frame b cs ps ss ∷ fs
       → read step (text (each p a b) rest) ≡ frame (each p a b) cs ps ss ∷ fs
   read_each p a b rest cs ps ss fs body e =
       ap (read step) (T.text-each p a b rest)
-      ∙ read_line step (codes "each") (path_word p ∷ []) (text a (ended (text b rest))) (frame a no_default [] [] ∷ frame b cs ps ss ∷ fs)
-      (frame (each p a b) cs ps ss ∷ fs) refl (clean_path p, tt)
-      (body (ended (text b rest)) (frame b cs ps ss ∷ fs) (read_end (text b rest) (frame b cs ps ss ∷ fs) e))
+      ∙ read_ended (codes "each") p (text a) (frame a no_default [] []) (frame (each p a b) cs ps ss) b rest cs ps ss fs refl body e
       (tells.at-each p a b cs ps ss fs)
 
   pub read_there : (p : List ℕ) (a b : Tree) (rest : List ℕ) (cs : Bodies) (ps : List P) (ss : List Tree) (fs : Frames) → BodyRead a
@@ -132,9 +141,7 @@ module _ (K : Trees) (P : Type 0) (T : Texts K P) (step : Line → List (Frame K
       → read step (text (if_there p a b) rest) ≡ frame (if_there p a b) cs ps ss ∷ fs
   read_there p a b rest cs ps ss fs body e =
       ap (read step) (T.text-there p a b rest)
-      ∙ read_line step (codes "some") (path_word p ∷ []) (text a (ended (text b rest))) (frame a no_default [] [] ∷ frame b cs ps ss ∷ fs)
-      (frame (if_there p a b) cs ps ss ∷ fs) refl (clean_path p, tt)
-      (body (ended (text b rest)) (frame b cs ps ss ∷ fs) (read_end (text b rest) (frame b cs ps ss ∷ fs) e))
+      ∙ read_ended (codes "some") p (text a) (frame a no_default [] []) (frame (if_there p a b) cs ps ss) b rest cs ps ss fs refl body e
       (tells.at-there p a b cs ps ss fs)
 
   pub read_switch : (p : List ℕ) (bs : Bodies) (b : Tree) (rest : List ℕ) (cs : Bodies) (ps : List P) (ss : List Tree) (fs : Frames)
@@ -143,9 +150,7 @@ module _ (K : Trees) (P : Type 0) (T : Texts K P) (step : Line → List (Frame K
       → read step (text (switch p bs b) rest) ≡ frame (switch p bs b) cs ps ss ∷ fs
   read_switch p bs b rest cs ps ss fs bodies e =
       ap (read step) (T.text-switch p bs b rest)
-      ∙ read_line step (codes "switch") (path_word p ∷ []) (cases bs (ended (text b rest))) (frame stop bs [] [] ∷ frame b cs ps ss ∷ fs)
-      (frame (switch p bs b) cs ps ss ∷ fs) refl (clean_path p, tt)
-      (bodies (ended (text b rest)) (frame b cs ps ss ∷ fs) (read_end (text b rest) (frame b cs ps ss ∷ fs) e))
+      ∙ read_ended (codes "switch") p (cases bs) (frame stop bs [] []) (frame (switch p bs b) cs ps ss) b rest cs ps ss fs refl bodies e
       (tells.at-switch p bs b cs ps ss fs)
 
   pub read_default : (b : Tree) (rest : List ℕ) (ps : List P) (ss : List Tree) (fs : Frames)

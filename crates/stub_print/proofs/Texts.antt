@@ -47,22 +47,30 @@ module _ (K : Trees) (P : Type 0) (T : Texts K P) where
       → old ++ text (seen o b) rest ≡ old ++ text (p b) rest
   seen_text o p old b rest is = ap (λ (q : Tree → Tree). old ++ text (q b) rest) is
 
+  -- an operation with one body, by the line that begins it
+  body_put : {E : Type 0} (r : Result (Unit {0}) E) (o : Op) (piece : Tree → Tree) (word : List ℕ) (path : List ℕ) (ops : List Op)
+      (old a b new : List ℕ) → seen o ≡ piece
+      → ((x : Tree) (rest : List ℕ) → text (piece x) rest ≡ line word (path_word path ∷ []) (text (code ops) (ended (text x rest))))
+      → IsPut old (line word (path_word path ∷ [])) a → IsPut a (text (code ops)) b → OnOk r (IsPut b ended new)
+      → OnOk r (IsOpPut old (seen o) new)
+  body_put r o piece word path ops old a b new is told first body last =
+      on_ok_weaker r
+      (λ end x rest. seen_text o piece old x rest is ∙ ap (λ (z : List ℕ). old ++ z) (told x rest) ∙ first _ ∙ body _
+      ∙ end (text x rest)) last
+
   pub each_put : {E : Type 0} (r : Result (Unit {0}) E) (o : Op) (path : List ℕ) (ops : List Op) (old a b new : List ℕ) → o ≡ Each path ops
       → IsPut old (line (codes "each") (path_word path ∷ [])) a → IsPut a (text (code ops)) b → OnOk r (IsPut b ended new)
       → OnOk r (IsOpPut old (seen o) new)
-  each_put r o path ops old a b new is first body last =
-      on_ok_weaker r
-      (λ end x rest. seen_text o (each path (code ops)) old x rest (ap seen is ∙ seen-Each path ops)
-      ∙ ap (λ (z : List ℕ). old ++ z) (text-each path (code ops) x rest) ∙ first _ ∙ body _ ∙ end (text x rest)) last
+  each_put r o path ops old a b new is =
+      body_put r o (each path (code ops)) (codes "each") path ops old a b new (ap seen is ∙ seen-Each path ops) (text-each path (code ops))
 
   pub there_put : {E : Type 0} (r : Result (Unit {0}) E) (o : Op) (path : List ℕ) (ops : List Op) (old a b new : List ℕ)
       → o ≡ There path ops
       → IsPut old (line (codes "some") (path_word path ∷ [])) a → IsPut a (text (code ops)) b → OnOk r (IsPut b ended new)
       → OnOk r (IsOpPut old (seen o) new)
-  there_put r o path ops old a b new is first body last =
-      on_ok_weaker r
-      (λ end x rest. seen_text o (if_there path (code ops)) old x rest (ap seen is ∙ seen-There path ops)
-      ∙ ap (λ (z : List ℕ). old ++ z) (text-there path (code ops) x rest) ∙ first _ ∙ body _ ∙ end (text x rest)) last
+  there_put r o path ops old a b new is =
+      body_put r o (if_there path (code ops)) (codes "some") path ops old a b new (ap seen is ∙ seen-There path ops)
+      (text-there path (code ops))
 
   -- the bodies that are left where the loop over them ends
   left_text : (items cs : List (ℤ × List Op)) (other : Option (List Op)) (i : ℕ) (a b r : List ℕ) → items ≡ cs → length items ≤ i
