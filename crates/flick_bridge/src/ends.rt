@@ -94,9 +94,19 @@ impl<'a> Ends for BothEnds<'a> {
                 Ok(message) => Ok(message),
                 Err(NoMemory) => Err(WriteErr::NoMemory),
             },
-            Err(MarshalErr::Long) => Err(WriteErr::Long),
-            Err(MarshalErr::NoMemory) => Err(WriteErr::NoMemory),
+            Err(why) => Err(unwritten(why)),
         }
+    }
+}
+
+/// Why a request is not written, by why its message was not made.
+fn unwritten(why: MarshalErr) -> WriteErr
+    ensures long { why ≡ MarshalErr.Long → result ≡ WriteErr.Long }
+    ensures memory { why ≡ MarshalErr.NoMemory → result ≡ WriteErr.NoMemory }
+{
+    match why {
+        MarshalErr::Long => WriteErr::Long,
+        MarshalErr::NoMemory => WriteErr::NoMemory,
     }
 }
 

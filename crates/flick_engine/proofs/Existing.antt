@@ -5,12 +5,15 @@ use Rattle.std.proofs.lemmas.Bool.{ltb-true, ltb-false}
 use Rattle.std.proofs.lemmas.List.{length-drop, take-append-drop, take_at}
 use Rattle.kit_base.specs.Limits.{longest_message}
 use Rattle.mint.specs.Sound.{IsSound}
+use Rattle.mint.specs.Types.{Ty}
 use Rattle.mint.specs.Values.{Val}
+use Rattle.wire_def.specs.declared.encoding.Encoding.{Encoding}
 use Rattle.wire_def.specs.Grammar.{AreOctets}
 use Rattle.wire_def.specs.Laws.{BeginsSpelled, HasFault}
 use Rattle.wire_def.specs.Spells.{IsSpelling}
 use Rattle.wire_def.proofs.Encodings.{decided}
 use Rattle.wire_def.proofs.Grammars.{octets_after}
+use Rattle.plain_wire.specs.Answered.{FirstSpell}
 use Rattle.head_kit.specs.declared.call_head.CallHead.{CallHead}
 use Rattle.head_kit.specs.declared.call_head.CallTarget.{CallTarget}
 use Rattle.head_kit.specs.declared.call_head.CallTarget.TheVariants as naming
@@ -27,6 +30,24 @@ pub above_or_not : (m n : ℕ) (t : Bool) → nat_lt m n ≡ t → (m < n) ⊎ (
 above_or_not m n true is = inl (ltb-true m n is)
 above_or_not m n false is = inr (ltb-false m n is)
 
+-- a body begins with the spelling of a value, and octets follow it at this place
+abbrev pub Trails : Encoding → Ty → ℕ → List ℕ → ℕ → Type 0
+Trails e t used o at = (v : Val) × (n : ℕ) × FirstSpell e t used (drop used o) v n × (at ≡ used + n) × (at < length o)
+
+-- so it is where octets follow what spells the value
+pub trails : (e : Encoding) (t : Ty) (used : ℕ) (o a : List ℕ) (x : ℕ) (rest : List ℕ) (v : Val) → drop used o ≡ a ++ x ∷ rest
+    → IsSpelling e t used a v → Trails e t used o (used + length a)
+trails e t used o a x rest v is spells = (
+  v,
+  length a,
+  record {
+    there = omega (arith, ap length is, length-append a (x ∷ rest));
+    spelled = rw (is, take_at a (x ∷ rest) (length a) refl) spells;
+  },
+  refl,
+  omega (arith, ap length is, length-append a (x ∷ rest), length-drop used o),
+)
+
 module _ (b : Binding) (sound : (op : ℕ) → IsSound (request_type b op)) (o : List ℕ) (oct : AreOctets o) where
   abbrev Something : Type 0
   Something = (x : Result Asked MessageErr) × ReadCall b o x
@@ -40,21 +61,7 @@ module _ (b : Binding) (sound : (op : ℕ) → IsSound (request_type b op)) (o :
   )
   spelled c op names a (x ∷ rest) v is spells = (
     Err (err.Trailing (c.used + length a)),
-    (
-      c,
-      op,
-      names,
-      (
-        v,
-        length a,
-        record {
-          there = omega (arith, ap length is, length-append a (x ∷ rest));
-          spelled = rw (is, take_at a (x ∷ rest) (length a) refl) spells;
-        },
-        refl,
-        omega (arith, ap length is, length-append a (x ∷ rest), length-drop c.used o),
-      ),
-    ),
+    (c, op, names, trails c.encoding (request_type b op) c.used o a x rest v is spells),
   )
 
   -- a body

@@ -1,7 +1,7 @@
 -- Octets are always something as a reply to an operation.
-use Rattle.std.proofs.Common.{◌≡◌, ◌⊎◌, inl, inr, ◌+◌, ◌<◌, ◌≤◌, ℕ, pos, Bool, true, false, List, [], ◌∷◌, ◌++◌, Result, Ok, Err, length, take, drop, refl, ap, arith, append-nil, length-append}
+use Rattle.std.proofs.Common.{◌≡◌, ◌⊎◌, inl, inr, ◌+◌, ◌<◌, ◌≤◌, ℕ, pos, Bool, true, false, List, [], ◌∷◌, ◌++◌, Result, Ok, Err, length, take, drop, refl, arith, append-nil}
 use Rattle.std.specs.Prelude.{nat_lt}
-use Rattle.std.proofs.lemmas.List.{length-drop, take-append-drop, take_at}
+use Rattle.std.proofs.lemmas.List.{length-drop, take-append-drop}
 use Rattle.kit_base.specs.Limits.{longest_message}
 use Rattle.mint.specs.Sound.{IsSound}
 use Rattle.mint.specs.Values.{Val, arm}
@@ -21,7 +21,7 @@ use Rattle.flick_engine.specs.Fates.{Heard, is_followed}
 use Rattle.flick_engine.specs.Received.{IsShort}
 use Rattle.flick_engine.specs.Replies.{arm_type}
 use Rattle.flick_engine.specs.RepliesReceived.{answered, refused, Replied, Says, ReadReply}
-use Rattle.flick_engine.proofs.Existing.{above_or_not}
+use Rattle.flick_engine.proofs.Existing.{above_or_not, trails}
 use Rattle.flick_engine.proofs.RepliesOfBacks.{HasReply, one_reply, has_reply}
 
 module _ (b : Binding) (op : ℕ) (sound : (k : ℕ) → IsSound (arm_type b op k)) (o : List ℕ) (oct : AreOctets o) where
@@ -37,21 +37,7 @@ module _ (b : Binding) (op : ℕ) (sound : (k : ℕ) → IsSound (arm_type b op 
   )
   spelled t k says a (x ∷ rest) w is spells = (
     Err (err.Trailing (t.used + length a)),
-    inl (
-      t,
-      k,
-      says,
-      (
-        w,
-        length a,
-        record {
-          there = omega (arith, ap length is, length-append a (x ∷ rest));
-          spelled = rw (is, take_at a (x ∷ rest) (length a) refl) spells;
-        },
-        refl,
-        omega (arith, ap length is, length-append a (x ∷ rest), length-drop t.used o),
-      ),
-    ),
+    inl (t, k, says, trails t.encoding (arm_type b op k) t.used o a x rest w is spells),
   )
 
   -- a body

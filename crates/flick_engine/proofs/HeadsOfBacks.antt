@@ -9,6 +9,7 @@ use Rattle.std.proofs.lemmas.Slice.Eq.{bytes_eq-Decides}
 use Rattle.kit_base.specs.Limits.{longest_message}
 use Rattle.wire_def.specs.declared.encoding.Back.{Back}
 use Rattle.wire_def.specs.declared.encoding.Back.TheVariants as back
+use Rattle.wire_def.specs.declared.encoding.Encoding.{Encoding}
 use Rattle.wire_def.specs.declared.head.Head.{Head}
 use Rattle.wire_def.specs.declared.head.Order.{Order}
 use Rattle.wire_def.specs.declared.head.Order.TheVariants.{Big, Little}
@@ -98,13 +99,18 @@ same_length back.CdrBig o long = length_sized Big o long
 same_length back.CdrLittle o long = length_sized Little o long
 same_length back.Mach o long = mach_sent.length_sized o (omega (arith, long))
 
--- a head that is sent is received as what it says, and its body follows it
-pub record IsReceived (k : Back) (b : Binding) (m op : ℕ) (head : Head) (c : CallHead) : Type 0 where
-  pub begins : (rest : List ℕ) → MayFollow (has_body b op) rest → length (lead_over k b m op head ++ rest) ≤ longest_message
-      → BeginsOver k b (sized k (lead_over k b m op head ++ rest)) c
-  pub follows : (rest : List ℕ) → drop c.used (sized k (lead_over k b m op head ++ rest)) ≡ rest
-  pub used : c.used ≡ length (lead_over k b m op head)
-  pub encoding : c.encoding ≡ encoding k
+-- a head that is sent, whose size is then set, is received as what it says, in so many octets and over this encoding; what may follow it follows
+pub record IsHeard (May : List ℕ → Type 0) (Begins : List ℕ → Type 0) (set : List ℕ → List ℕ) (lead : List ℕ) (many : ℕ) (e f : Encoding)
+    : Type 0 where
+  pub begins : (rest : List ℕ) → May rest → length (lead ++ rest) ≤ longest_message → Begins (set (lead ++ rest))
+  pub follows : (rest : List ℕ) → drop many (set (lead ++ rest)) ≡ rest
+  pub used : many ≡ length lead
+  pub encoding : e ≡ f
+
+-- the same of the head of a call
+abbrev pub IsReceived : Back → Binding → ℕ → ℕ → Head → CallHead → Type 0
+IsReceived k b m op head c =
+    IsHeard (MayFollow (has_body b op)) (λ o. BeginsOver k b o c) (sized k) (lead_over k b m op head) c.used c.encoding (encoding k)
 
 xdr_used : (b : Binding) (m op : ℕ) (head : Head) (c : CallHead) → SaysOver back.Xdr b m op head c → c.used
     ≡ length (lead_over back.Xdr b m op head)
@@ -114,26 +120,21 @@ module _ (m : ℕ) (r : Order) (b : Binding) (op : ℕ) (head : Head) (c : CallH
   abbrev asking : Request
   asking = request_of (target_of b op) head.id
 
-  cdr_begins : (rest : List ℕ) → MayFollow (has_body b op) rest
-      → length (cdr_leads.lead m (has_body b op) r (target_of b op) head.id ++ rest) ≤ longest_message
-      → cdr_seeking.Calls b (with_size r (cdr_leads.lead m (has_body b op) r (target_of b op) head.id ++ rest)) c
-  cdr_begins rest body few = (
-    reported_of m (has_body b op) r (target_of b op) head.id,
-    requests_begin m (has_body b op) r asking rest says.0 says.1 body (omega (arith, few)),
-    says.2,
-  )
+  abbrev asked : List ℕ
+  asked = cdr_leads.lead m (has_body b op) r (target_of b op) head.id
 
-  cdr_follows : (rest : List ℕ) → drop c.used (with_size r (cdr_leads.lead m (has_body b op) r (target_of b op) head.id ++ rest)) ≡ rest
-  cdr_follows rest =
-      ap (λ (x : CallHead). drop x.used (with_size r (cdr_leads.lead m (has_body b op) r (target_of b op) head.id ++ rest)))
-      (sym says.2)
-      ∙ follows_request m (has_body b op) r asking rest says.0 says.1
-
-  cdr_used : c.used ≡ length (cdr_leads.lead m (has_body b op) r (target_of b op) head.id)
-  cdr_used = ap (λ (x : CallHead). x.used) (sym says.2)
-
-  cdr_encoding : c.encoding ≡ laid r
-  cdr_encoding = ap (λ (x : CallHead). x.encoding) (sym says.2)
+  cdr_received : IsHeard (MayFollow (has_body b op)) (λ o. cdr_seeking.Calls b o c) (with_size r) asked c.used c.encoding (laid r)
+  cdr_received = record {
+    begins = λ rest body few. (
+      reported_of m (has_body b op) r (target_of b op) head.id,
+      requests_begin m (has_body b op) r asking rest says.0 says.1 body (omega (arith, few)),
+      says.2,
+    );
+    follows = λ rest. ap (λ (x : CallHead). drop x.used (with_size r (asked ++ rest))) (sym says.2)
+        ∙ follows_request m (has_body b op) r asking rest says.0 says.1;
+    used = ap (λ (x : CallHead). x.used) (sym says.2);
+    encoding = ap (λ (x : CallHead). x.encoding) (sym says.2);
+  }
 
 received_over : (k : Back) (b : Binding) (m op : ℕ) (head : Head) (c : CallHead) → SaysOver k b m op head c → IsReceived k b m op head c
 received_over back.Xdr b m op head c (fits, words, is) = record {
@@ -142,22 +143,8 @@ received_over back.Xdr b m op head c (fits, words, is) = record {
   used = xdr_used b m op head c (fits, words, is);
   encoding = sym (ap (λ (x : CallHead). x.encoding) is);
 }
-received_over back.CdrBig b m op head c says =
-    record {
-      begins = cdr_begins m Big b op head c says;
-      follows = cdr_follows m Big b op head c says;
-      used =
-          cdr_used m Big b op head c says;
-      encoding = cdr_encoding m Big b op head c says;
-    }
-received_over back.CdrLittle b m op head c says =
-    record {
-      begins = cdr_begins m Little b op head c says;
-      follows = cdr_follows m Little b op head c says;
-      used =
-          cdr_used m Little b op head c says;
-      encoding = cdr_encoding m Little b op head c says;
-    }
+received_over back.CdrBig b m op head c says = cdr_received m Big b op head c says
+received_over back.CdrLittle b m op head c says = cdr_received m Little b op head c says
 received_over back.Mach b m op head c (fits, ports, is) = record {
   begins =
       λ rest body few. (

@@ -18,7 +18,7 @@ reply_read_back b m op k head w t tells arm typed short =
     same_length b.back (lead ++ body) (omega (arith, long_reply_lead b m op k head, length-append lead body)) in (
       t,
       k,
-      (short, is.begins body (omega (arith, short, same)), arm),
+      (short, is.begins body tt (omega (arith, short, same)), arm),
       (
         refl,
         (

@@ -15,11 +15,13 @@ use Rattle.pres.specs.Bindings.{Binding}
 use Rattle.head_arms.specs.Raised.{exceptions}
 use Rattle.back_xdr.specs.Heads as xdr
 use Rattle.back_xdr.specs.Leads as xdr_leads
-use Rattle.back_xdr.specs.Reply as xdr_reply
 use Rattle.back_xdr.specs.Reported as xdr_reported
 use Rattle.back_xdr.proofs.Lawful as xdr_lawful
 use Rattle.giop_head.specs.declared.header.HeadKind.TheVariants.{Replies}
+use Rattle.head_kit.specs.Heads as heads
+use Rattle.head_kit.specs.Heads.{Format}
 use Rattle.head_kit.specs.Readers.{Tells}
+use Rattle.head_kit.proofs.Lawful.{IsSingle}
 use Rattle.giop_head.specs.Heads as giop
 use Rattle.giop_head.specs.Items.{laid}
 use Rattle.giop_head.specs.Reply as giop_reply
@@ -29,7 +31,6 @@ use Rattle.back_cdr.specs.Targets.{IsCdr, target_of}
 use Rattle.back_cdr.proofs.Growing.{long_reply}
 use Rattle.back_mach.specs.Heads as mach
 use Rattle.back_mach.specs.Leads as mach_leads
-use Rattle.back_mach.specs.Reply as mach_reply
 use Rattle.back_mach.specs.Routines.{routine_of}
 use Rattle.back_mach.specs.Reported as mach_reported
 use Rattle.back_mach.proofs.Lawful as mach_lawful
@@ -50,47 +51,57 @@ pub record IsOneReply (o : List ℕ) (Begins : Heard → Type 0) (Stops : HeadEr
 abbrev pub HasReply : (Heard → Type 0) → (HeadErr → Type 0) → Type 0
 HasReply Begins Stops = ((t : Heard) × Begins t) ⊎ ((e : HeadErr) × Stops e)
 
+-- a format of heads, of each of which, and of its length, this is heard
+module _ {A : Type 0} (f : Format A) (hear : A → ℕ → Heard) (o : List ℕ) (single : IsSingle f o)
+    (long : (h : A) (used : ℕ) → (hear h used).used ≡ used) where
+  one_heard : (t u : Heard) → heads.Begins f hear o t → heads.Begins f hear o u → t ≡ u
+  one_heard t u (h, used, starts, is) (j, m, starts', is') =
+      let same = single.one_head h j used m starts starts' in
+      sym is ∙ ap (λ (x : A). hear x used) same.0 ∙ ap (hear j) same.1 ∙ is'
+
+  heard_once : IsOneReply o (heads.Begins f hear o) (heads.StopsWith f o)
+  heard_once = record {
+    within = λ t (h, used, starts, is). omega (arith, starts.0, ap (λ (x : Heard). x.used) is, long h used);
+    not_both = λ t e (h, used, starts, is) stops. single.not_both h used e starts stops;
+    one_head = one_heard;
+    one_fault = single.one_fault;
+  }
+
+-- what is heard of a head by what is reported of it
+module _ {A B : Type 0} (f : Format A) (report : A → ℕ → B) (hear : B → Heard) (o : List ℕ) where
+  abbrev Hears : Heard → Type 0
+  Hears t = (r : B) × heads.Begins f report o r × (hear r ≡ t)
+
+  at_once : (t : Heard) → Hears t → heads.Begins f (λ h used. hear (report h used)) o t
+  at_once t (r, (h, used, starts, reported), is) = (h, used, starts, ap hear reported ∙ is)
+
+  reported_once : IsOneReply o (heads.Begins f (λ h used. hear (report h used)) o) (heads.StopsWith f o)
+      → IsOneReply o Hears (heads.StopsWith f o)
+  reported_once one = record {
+    within = λ t h. one.within t (at_once t h);
+    not_both = λ t e h. one.not_both t e (at_once t h);
+    one_head = λ t u h j. one.one_head t u (at_once t h) (at_once u j);
+    one_fault = one.one_fault;
+  }
+
+  found : ((h : A) × (used : ℕ) × heads.BeginsWith f o h used) ⊎ ((e : HeadErr) × heads.StopsWith f o e)
+      → HasReply Hears (heads.StopsWith f o)
+  found (inl (h, used, starts)) = inl (_, (report h used, (h, used, starts, refl), refl))
+  found (inr (e, stops)) = inr (e, stops)
+
 module _ (b : Binding) (op : ℕ) (o : List ℕ) where
   -- ONC
   abbrev onc_way : xdr.HeadKind
   onc_way = xdr.reply (exceptions b op)
 
-  xdr_viewed : xdr_reply.Reply → ℕ → Heard
-  xdr_viewed h used = heard_over back.Xdr b op (xdr_reported.reply_reported h used)
-
-  xdr_one : (t u : Heard) → RepliesOver back.Xdr b op o t → RepliesOver back.Xdr b op o u → t ≡ u
-  xdr_one t u (r, (h, used, starts, reported), is) (s, (j, m, starts', reported'), is') =
-      let same = (xdr_lawful.heads_are_single onc_way o).one_head h j used m starts starts' in
-      sym is ∙ ap (heard_over back.Xdr b op)
-      (sym reported ∙ ap (λ (x : xdr_reply.Reply). xdr_reported.reply_reported x used) same.0 ∙ ap (xdr_reported.reply_reported j) same.1
-      ∙ reported') ∙ is'
-
   xdr_one_reply : IsOneReply o (RepliesOver back.Xdr b op o) (ReplyStopsOver back.Xdr b op o)
-  xdr_one_reply = record {
-    within = λ t (r, (h, used, starts, reported), is). rw (← is, ← reported) starts.0;
-    not_both = λ t e (r, (h, used, starts, reported), is) stops. (xdr_lawful.heads_are_single onc_way o).not_both h used e starts stops;
-    one_head = xdr_one;
-    one_fault = (xdr_lawful.heads_are_single onc_way o).one_fault;
-  }
-
-  xdr_found : ((h : xdr_reply.Reply) × (used : ℕ) × xdr.BeginsWith onc_way o h used) ⊎ ((e : HeadErr) × xdr.StopsWith onc_way o e)
-      → HasReply (RepliesOver back.Xdr b op o) (ReplyStopsOver back.Xdr b op o)
-  xdr_found (inl (h, used, starts)) = inl (_, (xdr_reported.reply_reported h used, (h, used, starts, refl), refl))
-  xdr_found (inr (e, stops)) = inr (e, stops)
+  xdr_one_reply = reported_once (xdr.format onc_way) xdr_reported.reply_reported (heard_over back.Xdr b op) o
+      (heard_once (xdr.format onc_way) (λ h used. heard_over back.Xdr b op (xdr_reported.reply_reported h used)) o
+      (xdr_lawful.heads_are_single onc_way o) (λ h used. refl))
 
   -- GIOP
-  giop_one : (t u : Heard) → RepliesInOrder b op o t → RepliesInOrder b op o u → t ≡ u
-  giop_one t u (r, used, starts, is) (s, m, starts', is') =
-      let same = (giop_lawful.heads_are_single Replies o).one_head r s used m starts starts' in
-      sym is ∙ ap (λ (x : giop_reply.Reply). giop_heard b op x used) same.0 ∙ ap (giop_heard b op s) same.1 ∙ is'
-
   giop_one_reply : IsOneReply o (RepliesInOrder b op o) (giop.StopsWith Replies o)
-  giop_one_reply = record {
-    within = λ t (r, used, starts, is). rw (← is) starts.0;
-    not_both = λ t e (r, used, starts, is) stops. (giop_lawful.heads_are_single Replies o).not_both r used e starts stops;
-    one_head = giop_one;
-    one_fault = (giop_lawful.heads_are_single Replies o).one_fault;
-  }
+  giop_one_reply = heard_once (giop.format Replies (length o)) (giop_heard b op) o (giop_lawful.heads_are_single Replies o) (λ h used. refl)
 
   giop_found : ((h : giop_reply.Reply) × (used : ℕ) × giop.BeginsWith Replies o h used) ⊎ ((e : HeadErr) × giop.StopsWith Replies o e)
       → HasReply (RepliesInOrder b op o) (giop.StopsWith Replies o)
@@ -101,26 +112,10 @@ module _ (b : Binding) (op : ℕ) (o : List ℕ) where
   abbrev way : mach.HeadKind
   way = mach.reply (reply_id b op) (exceptions b op)
 
-  mach_one : (t u : Heard) → RepliesOver back.Mach b op o t → RepliesOver back.Mach b op o u → t ≡ u
-  mach_one t u (r, (h, used, starts, reported), is) (s, (j, m, starts', reported'), is') =
-      let same = (mach_lawful.heads_are_single way o).one_head h j used m starts starts' in
-      sym is ∙ ap (heard_over back.Mach b op)
-      (sym reported
-      ∙ ap (λ (x : mach_reply.Reply). mach_reported.reply_reported x used) same.0 ∙ ap (mach_reported.reply_reported j) same.1
-      ∙ reported') ∙ is'
-
   mach_one_reply : IsOneReply o (RepliesOver back.Mach b op o) (ReplyStopsOver back.Mach b op o)
-  mach_one_reply = record {
-    within = λ t (r, (h, used, starts, reported), is). rw (← is, ← reported) starts.0;
-    not_both = λ t e (r, (h, used, starts, reported), is) stops. (mach_lawful.heads_are_single way o).not_both h used e starts stops;
-    one_head = mach_one;
-    one_fault = (mach_lawful.heads_are_single way o).one_fault;
-  }
-
-  mach_found : ((h : mach_reply.Reply) × (used : ℕ) × mach.BeginsWith way o h used) ⊎ ((e : HeadErr) × mach.StopsWith way o e)
-      → HasReply (RepliesOver back.Mach b op o) (ReplyStopsOver back.Mach b op o)
-  mach_found (inl (h, used, starts)) = inl (_, (mach_reported.reply_reported h used, (h, used, starts, refl), refl))
-  mach_found (inr (e, stops)) = inr (e, stops)
+  mach_one_reply = reported_once (mach.format way (length o)) mach_reported.reply_reported (heard_over back.Mach b op) o
+      (heard_once (mach.format way (length o)) (λ h used. heard_over back.Mach b op (mach_reported.reply_reported h used)) o
+      (mach_lawful.heads_are_single way o) (λ h used. refl))
 
   one_reply_over : (k : Back) → IsOneReply o (RepliesOver k b op o) (ReplyStopsOver k b op o)
   one_reply_over back.Xdr = xdr_one_reply
@@ -133,10 +128,14 @@ module _ (b : Binding) (op : ℕ) (o : List ℕ) where
   one_reply = one_reply_over b.back
 
   has_reply_over : (k : Back) → AreOctets o → HasReply (RepliesOver k b op o) (ReplyStopsOver k b op o)
-  has_reply_over back.Xdr oct = xdr_found (xdr_lawful.heads_are_decided onc_way o oct).either
+  has_reply_over back.Xdr oct =
+      found (xdr.format onc_way) xdr_reported.reply_reported (heard_over back.Xdr b op) o
+      (xdr_lawful.heads_are_decided onc_way o oct).either
   has_reply_over back.CdrBig oct = giop_found (giop_lawful.heads_are_decided Replies o oct).either
   has_reply_over back.CdrLittle oct = giop_found (giop_lawful.heads_are_decided Replies o oct).either
-  has_reply_over back.Mach oct = mach_found (mach_lawful.heads_are_decided way o oct).either
+  has_reply_over back.Mach oct =
+      found (mach.format way (length o)) mach_reported.reply_reported (heard_over back.Mach b op) o
+      (mach_lawful.heads_are_decided way o oct).either
 
   -- octets have a head of a reply, or a fault of it
   pub has_reply : AreOctets o → HasReply (BeginsReply b op o) (ReplyStops b op o)

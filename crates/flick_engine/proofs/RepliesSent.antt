@@ -24,14 +24,12 @@ use Rattle.back_mach.specs.declared.routines.Routine.{Routine}
 use Rattle.back_mach.proofs.Sent as mach_sent
 use Rattle.flick_engine.specs.Backs.{encoding, sized, reply_lead_over, RepliesInOrder, RepliesOver, onc_reply_of, mach_reply_of, giop_fate_of, giop_answer, TellsInOrder, TellsOver, Tells}
 use Rattle.flick_engine.specs.Fates.{Heard}
+use Rattle.flick_engine.proofs.HeadsOfBacks.{IsHeard}
 
--- a head that is sent is received as what it says, and its body follows it
-pub record IsReplyReceived (k : Back) (b : Binding) (m op arm : ℕ) (head : Head) (t : Heard) : Type 0 where
-  pub begins : (rest : List ℕ) → length (reply_lead_over k b m op arm head ++ rest) ≤ longest_message
-      → RepliesOver k b op (sized k (reply_lead_over k b m op arm head ++ rest)) t
-  pub follows : (rest : List ℕ) → drop t.used (sized k (reply_lead_over k b m op arm head ++ rest)) ≡ rest
-  pub used : t.used ≡ length (reply_lead_over k b m op arm head)
-  pub encoding : t.encoding ≡ encoding k
+-- the head of a reply that is sent is received as what it says, and any body follows it
+abbrev pub IsReplyReceived : Back → Binding → ℕ → ℕ → ℕ → Head → Heard → Type 0
+IsReplyReceived k b m op arm head t =
+    IsHeard (λ rest. Unit {0}) (λ o. RepliesOver k b op o t) (sized k) (reply_lead_over k b m op arm head) t.used t.encoding (encoding k)
 
 -- ---- GIOP
 
@@ -57,19 +55,14 @@ module _ (m : ℕ) (r : Order) (b : Binding) (op arm : ℕ) (head : Head) (t : H
       subst (λ (o : List ℕ). giop.BeginsWith Replies (with_size r (o ++ more)) (giop_answer m r target arm head.id) (length o)) (sym is)
       (replies_begin_with m r head.id (giop_fate_of target arm) more tells.0 tells.1 tells.2 small)
 
-  pub in_order_begins : (more : List ℕ) → length (lead ++ more) ≤ longest_message → RepliesInOrder b op (with_size r (lead ++ more)) t
-  in_order_begins more few = (giop_answer m r target arm head.id, length lead, begins_with more lead same_lead few, tells.3)
-
-  pub in_order_follows : (more : List ℕ) → drop t.used (with_size r (lead ++ more)) ≡ more
-  in_order_follows more =
-      ap (λ (x : Heard). drop x.used (with_size r (lead ++ more))) (sym tells.3)
-      ∙ rw same_lead (follows_reply m r head.id (giop_fate_of target arm) more tells.0 tells.1 tells.2)
-
-  pub in_order_used : t.used ≡ length lead
-  in_order_used = ap (λ (x : Heard). x.used) (sym tells.3)
-
-  pub in_order_laid : t.encoding ≡ laid r
-  in_order_laid = ap (λ (x : Heard). x.encoding) (sym tells.3)
+  in_order_received : IsHeard (λ rest. Unit {0}) (λ o. RepliesInOrder b op o t) (with_size r) lead t.used t.encoding (laid r)
+  in_order_received = record {
+    begins = λ more any few. (giop_answer m r target arm head.id, length lead, begins_with more lead same_lead few, tells.3);
+    follows = λ more. ap (λ (x : Heard). drop x.used (with_size r (lead ++ more))) (sym tells.3)
+        ∙ rw same_lead (follows_reply m r head.id (giop_fate_of target arm) more tells.0 tells.1 tells.2);
+    used = ap (λ (x : Heard). x.used) (sym tells.3);
+    encoding = ap (λ (x : Heard). x.encoding) (sym tells.3);
+  }
 
 -- ---- ONC
 
@@ -100,35 +93,22 @@ received_over : (k : Back) (b : Binding) (m op arm : ℕ) (head : Head) (t : Hea
 received_over back.Xdr b m op arm head t (fits, (word_fits, few), is) =
     let lead : List ℕ = onc_leads.reply_lead (exceptions b op) arm head.id in
     record {
-      begins = λ rest short. (onc_reply_of b op arm head, onc_sent.replies_read (exceptions b op) arm head.id rest fits word_fits few, is);
+      begins =
+          λ rest any short. (onc_reply_of b op arm head, onc_sent.replies_read (exceptions b op) arm head.id rest fits word_fits few, is);
       follows =
           λ rest. ap (λ (x : Heard). drop x.used (lead ++ rest)) (sym is) ∙ onc_follows (exceptions b op) arm head.id rest;
       used = ap (λ (x : Heard). x.used) (sym is) ∙ onc_long (exceptions b op) arm head.id;
       encoding = ap (λ (x : Heard). x.encoding) (sym is);
     }
-received_over back.CdrBig b m op arm head t tells =
-    record {
-      begins = in_order_begins m Big b op arm head t tells;
-      follows = in_order_follows m Big b op arm head t tells;
-      used =
-          in_order_used m Big b op arm head t tells;
-      encoding = in_order_laid m Big b op arm head t tells;
-    }
-received_over back.CdrLittle b m op arm head t tells =
-    record {
-      begins = in_order_begins m Little b op arm head t tells;
-      follows = in_order_follows m Little b op arm head t tells;
-      used =
-          in_order_used m Little b op arm head t tells;
-      encoding = in_order_laid m Little b op arm head t tells;
-    }
+received_over back.CdrBig b m op arm head t tells = in_order_received m Big b op arm head t tells
+received_over back.CdrLittle b m op arm head t tells = in_order_received m Little b op arm head t tells
 received_over back.Mach b m op arm head t (ports, (word_fits, few), is) =
     let r : Routine = routine_of b op in
     let arms : ℕ = exceptions b op in
     let lead : List ℕ = mach_leads.reply_lead r arms arm head in
     record {
       begins =
-          λ rest short.
+          λ rest any short.
           (mach_reply_of b op arm head, mach_sent.replies_read r arms arm head rest ports word_fits few (omega (arith, short)), is);
       follows =
           λ rest. ap (λ (x : Heard). drop x.used (mach_leads.with_size (lead ++ rest))) (sym is) ∙ mach_follows r arms arm head rest;

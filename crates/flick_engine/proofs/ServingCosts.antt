@@ -23,13 +23,13 @@ use Rattle.flick_engine.specs.Serving.{reply_in, is_answered, AnswersByCode, Ans
 use Rattle.flick_engine.proofs.Deciding.{determined}
 use Rattle.flick_engine.proofs.HeadsOfBacks.{one_head}
 
-no_request : (e : MessageErr) (r : Asked) (y : Result Asked MessageErr) → y ≡ Err e → y ≡ Ok r → ⊥
+pub no_request : (e : MessageErr) (r : Asked) (y : Result Asked MessageErr) → y ≡ Err e → y ≡ Ok r → ⊥
 no_request e r y is not = cc
 
-one_request : (q r : Asked) (y : Result Asked MessageErr) → y ≡ Ok q → y ≡ Ok r → q ≡ r
+pub one_request : (q r : Asked) (y : Result Asked MessageErr) → y ≡ Ok q → y ≡ Ok r → q ≡ r
 one_request q r y first second = let same = sym first ∙ second in cc
 
-unshown : (t : Bool) → t ≡ true → t ≡ false → ⊥
+pub unshown : (t : Bool) → t ≡ true → t ≡ false → ⊥
 unshown t is not = cc
 
 module _ (x : Coded) (work : ℕ → Val → Val → Type 0) (o : List ℕ) (answer : Option (List ℕ)) (spent : Tally) (new : Buf) where

@@ -34,7 +34,7 @@ Names b o c n = IsShort o × Begins b o c × (c.naming ≡ n)
 abbrev pub Calls : Binding → List ℕ → (CallHead → ℕ → Type 0) → Type 0
 Calls b o After = (c : CallHead) × (op : ℕ) × Names b o c (Operation op) × After c op
 
--- they begin with the head of a call that names an operation
+-- octets begin with the head of a call that names an operation
 abbrev pub CallsOperation : Binding → List ℕ → Type 0
 CallsOperation b o = (c : CallHead) × (op : ℕ) × Names b o c (Operation op)
 

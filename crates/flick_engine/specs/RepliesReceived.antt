@@ -44,7 +44,7 @@ Answers b op o After = (t : Heard) × (k : ℕ) × Says b op o t (Arm k) × Afte
 abbrev pub Refuses : Binding → ℕ → List ℕ → (Heard → Refusal → Type 0) → Type 0
 Refuses b op o Ends = (t : Heard) × (why : Refusal) × Says b op o t (Refused why) × Ends t why
 
--- they begin with the head of a reply that takes memory to read
+-- octets begin with the head of a reply that takes memory to read
 abbrev pub TakesMemory : Binding → ℕ → List ℕ → Type 0
 TakesMemory b op o = (t : Heard) × IsShort o × BeginsReply b op o t × (takes_memory t.fate ≡ true)
 

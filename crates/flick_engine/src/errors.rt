@@ -1,6 +1,6 @@
 //! Why there is no message, or no request.
 
-ghost use Rattle.std.specs.Prelude.{◌≡◌};
+ghost use Rattle.std.specs.Prelude.{◌≡◌, OnErr, OnOk};
 ghost use Rattle.flick_engine.specs.declared.errors.MarshalErr.TheVariants.{NoMemory as NoMessage};
 ghost use Rattle.flick_engine.specs.declared.errors.MessageErr.TheVariants.{NoMemory as NoRequest};
 ghost use Rattle.flick_engine.specs.Messages.{ended, refusal_of};
@@ -43,6 +43,17 @@ pub(crate) fn ended(ran: Result<(), SendErr>) -> Result<(), MarshalErr>
     match ran {
         Ok(()) => Ok(()),
         Err(why) => Err(refusal_of(why)),
+    }
+}
+
+/// A message that was not made is too long, unless memory ran out.
+pub fn long_alone(why: MarshalErr) -> Result<(), NoMemory>
+    ensures long { OnOk result (why ≡ MarshalErr.Long) }
+    ensures only { OnErr result (why ≡ MarshalErr.NoMemory) }
+{
+    match why {
+        MarshalErr::Long => Ok(()),
+        MarshalErr::NoMemory => Err(NoMemory),
     }
 }
 

@@ -20,7 +20,7 @@ mod unmarshal_reply;
 mod wire;
 
 pub use engine::Engine;
-pub use errors::{MarshalErr, MessageErr};
+pub use errors::{MarshalErr, MessageErr, long_alone};
 pub use laws::{
     messages_are_decided, messages_are_read_back, operations_match_unit, replies_are_decided,
     replies_are_read_back, replies_match_unit, servings_are_decided,

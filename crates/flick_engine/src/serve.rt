@@ -16,7 +16,7 @@ ghost use Rattle.flick_engine.specs.Serving as serving;
 ghost use Rattle.flick_engine.specs.Serving.{IsDue, Serves, ServesByCode, ServesCall, AnswersCall, AnswersCallByCode, AnswersAs, AnswersByCode, reply_in};
 
 use crate::engine::Engine;
-use crate::errors::{MarshalErr, MessageErr};
+use crate::errors::{MessageErr, long_alone};
 use crate::requests::Request;
 use head_kit::{CallHead, CallTarget};
 use kit_base::NoMemory;
@@ -228,11 +228,11 @@ impl Engine {
         let reply = skeleton.call(alloc, request.op, &request.value)?;
         match self.reply_in_version(request.op, called.minor, &head, &reply, buf) {
             Ok(()) => Ok(()),
-            Err(MarshalErr::Long) => {
+            Err(why) => {
+                long_alone(why)?;
                 let why = self.long_reply(alloc)?;
                 self.refuse(&why, called, message, buf)
             }
-            Err(MarshalErr::NoMemory) => Err(NoMemory),
         }
     }
 }

@@ -15,7 +15,7 @@ mod verb;
 pub use answered::answer;
 pub use counted::count;
 pub use laws::{lines_are_answered, messages_are_counted};
-pub use marshalled::{long_alone, marshal, message_of, tree_of};
+pub use marshalled::{marshal, message_of, tree_of};
 pub use replied::reply;
 pub use text::{copied, digits, ended};
 pub use unmarshalled::{record_of, unmarshal};

@@ -15,7 +15,7 @@ ghost use Rattle.flick_lines.specs.Paid.{call_by_code, IsPaid, IsPaidRecord};
 
 use crate::text::{copied, digits};
 use crate::usual::usual_of;
-use flick_engine::{Engine, MarshalErr};
+use flick_engine::{Engine, long_alone};
 use json_shape::{RecordErr, RequestRec, Scratch, read_request};
 use kit_base::{NoMemory, Octets};
 use raw_buf::SendBuf;
@@ -134,17 +134,6 @@ pub(crate) fn refused(alloc: Global, refusal: RecordErr) -> Result<Octets, NoMem
         RecordErr::Head => copied(alloc, b"! head"),
         RecordErr::Shape => copied(alloc, b"! value"),
         RecordErr::NoMemory => Err(NoMemory),
-    }
-}
-
-/// A message that was not made is too long, unless memory ran out.
-pub fn long_alone(why: MarshalErr) -> Result<(), NoMemory>
-    ensures long { OnOk result (why ≡ MarshalErr.Long) }
-    ensures only { OnErr result (why ≡ MarshalErr.NoMemory) }
-{
-    match why {
-        MarshalErr::Long => Ok(()),
-        MarshalErr::NoMemory => Err(NoMemory),
     }
 }
 

@@ -12,9 +12,9 @@ ghost use Rattle.flick_lines.specs.declared.verb.Verb.TheVariants as verbs;
 ghost use Rattle.flick_lines.specs.Marshalled.{digits_of, reply_digits, IsOfRecord, IsReplied};
 ghost use Rattle.flick_lines.specs.Paid.{reply_by_code, IsPaid, IsPaidRecord};
 
-use crate::marshalled::{long_alone, refused, tree_of};
+use crate::marshalled::{refused, tree_of};
 use crate::text::{copied, digits};
-use flick_engine::Engine;
+use flick_engine::{Engine, long_alone};
 use json_shape::{RequestRec, read_reply};
 use kit_base::{NoMemory, Octets};
 use raw_buf::SendBuf;

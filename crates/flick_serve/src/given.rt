@@ -15,8 +15,8 @@ ghost use Rattle.flick_engine.specs.Received.{IsShort};
 ghost use Rattle.flick_serve.specs.Given as files;
 ghost use Rattle.flick_serve.specs.Given.{Adds, FileGives, Finds, Give, IsFitting, IsGiven, IsReplyOf, given_by, given_in, lines_of, message_of, unless_wrong};
 
-use flick_engine::Engine;
-use flick_lines::{long_alone, tree_of};
+use flick_engine::{Engine, long_alone};
+use flick_lines::tree_of;
 use json_shape::{RecordErr, RequestRec, read_given};
 use kit_base::NoMemory;
 use raw_buf::SendBuf;

@@ -11,7 +11,7 @@ ghost use Rattle.flick_texts.specs.Spent.{all_sent, sent_from};
 use crate::sums::Sums;
 use crate::trip::{Trip, refused};
 use case_make::make_value;
-use flick_engine::{Engine, MarshalErr};
+use flick_engine::{Engine, long_alone};
 use kit_base::{NoMemory, Octets};
 use raw_buf::{RecvView, SendBuf};
 use std::alloc::Global;
@@ -84,8 +84,10 @@ fn make_message(
     )?;
     match engine.marshal(op, &head_of(i), &value, buf) {
         Ok(()) => read_back(alloc, engine, buf.octets()),
-        Err(MarshalErr::Long) => Ok(Trip::Long),
-        Err(MarshalErr::NoMemory) => Err(NoMemory),
+        Err(why) => {
+            long_alone(why)?;
+            Ok(Trip::Long)
+        }
     }
 }
 
