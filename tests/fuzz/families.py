@@ -90,10 +90,20 @@ def corba_unions(count):
             + "\ninterface i { void f(in u0 a); };\n")
 
 
+def doubling(levels):
+    """Structs of which each has the one before it twice."""
+    return "struct s0 { long a; octet b; };\n" + "".join(f"struct s{n} {{ s{n - 1} a; s{n - 1} b; }};\n" for n in range(1, levels))
+
+
 def doubled(levels, operations, interfaces=1):
     """Structs of which each has the one before it twice, taken and returned by operations."""
-    types = "struct s0 { long a; octet b; };\n" + "".join(f"struct s{n} {{ s{n - 1} a; s{n - 1} b; }};\n" for n in range(1, levels))
-    return types + inherited(listed(operations, f"s{levels - 1} f%d(in s{levels - 1} a);"), interfaces)
+    return doubling(levels) + inherited(listed(operations, f"s{levels - 1} f%d(in s{levels - 1} a);"), interfaces)
+
+
+def wrapped(levels, unions):
+    """Structs of which each has the one before it twice, in unions within one another."""
+    arms = f"union u0 switch (long) {{ case 1: s{levels - 1} a; }};\n" + "".join(f"union u{n} switch (long) {{ case 1: u{n - 1} a; }};\n" for n in range(1, unions))
+    return doubling(levels) + arms + f"interface i {{ void f(in u{unions - 1} a); }};\n"
 
 
 def armed(lengths):
@@ -154,6 +164,7 @@ FAMILIES += (
     Family("unions over an enum of 4,096 items", "corba", CDR, lambda size: sized(max(size, 65_536), corba_unions)),
     Family("structs of which each has the one before it twice, in 7 operations", "corba", ANY, lambda size: doubled(13, 7)),
     Family("structs of which each has the one before it twice, in 256 operations of 7 interfaces", "corba", ANY, lambda size: doubled(5, OPERATIONS, 7)),
+    Family("structs of which each has the one before it twice, in unions within one another", "corba", ANY, lambda size: wrapped(13, 13)),
 )
 
 
