@@ -2,9 +2,10 @@
 
 ghost use Rattle.std.specs.Prelude.{◌≡◌, ◌==◌, ◌<◌, true, false, Some, IfSome, IsTrue, drop, length, slice_index};
 ghost use Rattle.fast_float.specs.Text.{scan};
-ghost use Rattle.kit_base.specs.Decimal.{value_on};
 ghost use Rattle.serde_json.specs.Find.{of_integer};
 ghost use Rattle.serde_json.specs.Read.{number_from, number_of};
+
+use kit_base::decimal_value;
 
 /// The greatest number that has a negative of 64 bits.
 const MOST_BELOW: u64 = 9_223_372_036_854_775_808;
@@ -39,7 +40,7 @@ fn after_minus(octets: &[u8]) -> &[u8]
 fn positive(octets: &[u8]) -> Option<i128>
     ensures { IfSome result (λ n. number_from false (scan octets.now) ≡ Some (of_integer n)) }
 {
-    match decimal(octets) {
+    match decimal_value(octets) {
         Some(n) if !octets.is_empty() => Some(i128::from(n)),
         _ => None,
     }
@@ -48,28 +49,8 @@ fn positive(octets: &[u8]) -> Option<i128>
 fn negative(octets: &[u8]) -> Option<i128>
     ensures { IfSome result (λ n. number_from true (scan octets.now) ≡ Some (of_integer n)) }
 {
-    match decimal(octets) {
+    match decimal_value(octets) {
         Some(n) if 0 < n && n <= MOST_BELOW => Some(-i128::from(n)),
         _ => None,
     }
-}
-
-/// The number of 64 bits that digits write.
-fn decimal(digits: &[u8]) -> Option<u64>
-    ensures { IfSome result (λ n. value_on 0 digits.now ≡ Some n) }
-{
-    let mut n = 0u64;
-    for d in digits {
-        if *d < 48 || 57 < *d {
-            return None;
-        }
-        let Some(tens) = n.checked_mul(10) else {
-            return None;
-        };
-        let Some(next) = tens.checked_add(u64::from(*d - 48)) else {
-            return None;
-        };
-        n = next;
-    }
-    Some(n)
 }

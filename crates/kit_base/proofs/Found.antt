@@ -13,7 +13,8 @@ value_on-le n (d ∷ ds) m e = go (nat_le 48 d && nat_le d 57) (value_on-le (10 
   go true below f = let more = below f in omega (arith, more)
   go false below f = absurd (cc f)
 
-number_value : (word : List ℕ) (m : ℕ) → number_in word ≡ Some m → value_on 0 word ≡ Some m
+-- the number of a word is that of its digits
+pub number_value : (word : List ℕ) (m : ℕ) → number_in word ≡ Some m → value_on 0 word ≡ Some m
 number_value [] m e = absurd (cc e)
 number_value (d ∷ ds) m e = go (d == 48) e where
   go : (b : Bool) → (if b then None else value_on 0 (d ∷ ds)) ≡ Some m → value_on 0 (d ∷ ds) ≡ Some m
@@ -22,12 +23,12 @@ number_value (d ∷ ds) m e = go (d == 48) e where
 
 -- the digit at a place makes the number at least so large
 pub digit-le : (word : List ℕ) (i n m : ℕ) → value_on 0 word ≡ value_on n (drop i word) → i < length word
-    → 48 ≤ get_or word i 0 → get_or word i 0 ≤ 57 → number_in word ≡ Some m
+    → 48 ≤ get_or word i 0 → get_or word i 0 ≤ 57 → value_on 0 word ≡ Some m
     → 10 * n + (get_or word i 0 - 48) ≤ m
 digit-le word i n m so_far within low high e =
     let d = get_or word i 0 in
     let test : (nat_le 48 d && nat_le d 57) ≡ true = grind (arith, nat_tests, low, high) in
     let cut : drop i word ≡ d ∷ drop (suc i) word = drop-cons word i 0 within in
-    let whole : value_on n (drop i word) ≡ Some m = sym so_far ∙ number_value word m e in
+    let whole : value_on n (drop i word) ≡ Some m = sym so_far ∙ e in
     let rest : value_on (10 * n + (d - 48)) (drop (suc i) word) ≡ Some m = rw (cut, test) at whole in
     value_on-le (10 * n + (d - 48)) (drop (suc i) word) m rest

@@ -43,3 +43,12 @@ impl<T: Drop> Boxed<T> {
         })
     }
 }
+
+impl<T> Boxed<T> {
+    /// The value, out of its box.
+    pub fn into_value(self) -> T
+        ensures { result ≡ self }
+    {
+        Box::into_inner(self.held)
+    }
+}

@@ -1,7 +1,7 @@
 //! Decimal numbers in words.
 
 ghost use Rattle.std.specs.Prelude.{◌≡◌, ◌≢◌, ◌<◌, ◌^◌, ℕ, IfSome, Some, None};
-ghost use Rattle.kit_base.specs.Decimal.{is_listed, is_number, number_in};
+ghost use Rattle.kit_base.specs.Decimal.{is_listed, is_number, number_in, value_on};
 
 use crate::Words;
 
@@ -34,8 +34,16 @@ fn read_number(word: &[u8]) -> Option<u64>
     if word.first() == Some(&48) || word.is_empty() {
         return None;
     }
+    decimal_value(word)
+}
+
+/// The number of 64 bits that decimal digits write, where each octet is a digit and the number fits.
+pub fn decimal_value(digits: &[u8]) -> Option<u64>
+    ensures some { IfSome result (λ n. value_on 0 digits.now ≡ Some n) }
+    ensures none { result ≡ None → (n : ℕ) → n < 2 ^ 64 → value_on 0 digits.now ≢ Some n }
+{
     let mut n = 0u64;
-    for d in word {
+    for d in digits {
         if *d < 48 || 57 < *d {
             return None;
         }

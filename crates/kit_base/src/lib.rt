@@ -21,6 +21,7 @@ mod reading;
 mod std_ends;
 
 pub use boxed::Boxed;
+pub use decimal::decimal_value;
 pub use errors::{Failed, NoMemory};
 pub use lines::{Line, LineErr, Lines};
 pub use listed::{Listed, Name, Octets, Words, make_room};

@@ -115,6 +115,13 @@ impl<T> Keyed<T> {
         self.entries.as_slice()
     }
 
+    /// The entries themselves.
+    pub fn into_entries(self) -> Vec<(i128, T)>
+        ensures { result.items ≡ self }
+    {
+        self.entries
+    }
+
     /// The place of the first entry that has a number.
     pub fn find(&self, n: &i128) -> Option<usize>
         ensures place { result ≡ place_of n.now self.now }

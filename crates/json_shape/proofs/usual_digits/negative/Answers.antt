@@ -11,4 +11,4 @@ returns-in-Some c =
     let same : z ≡ neg_ℤ (pos c.in-Some.n) = ap (λ x. pos 0 -ℤ x) c.from.ensures ∙ below_zero c.in-Some.n in
     let within : SFits w128 z = search rules in
     rw (to_z-of_z w128 c.from.result fits, to_z-of_z w128 z within)
-    (negative_digits c.args.octets.now c.in-Some.n z c.in-Some.ensures c.if-n-gt0.true c.if-n-le-MOST_BELOW.true same)
+    (negative_digits c.args.octets.now c.in-Some.n z c.in-Some.ensures.some c.if-n-gt0.true c.if-n-le-MOST_BELOW.true same)

@@ -10,4 +10,4 @@ returns-in-Some c =
     let fits : SFits w128 c.from.result = search rules in
     let some : 0 < length c.args.octets.now = grind (arith, common_steps) in
     rw (to_z-of_z w128 c.from.result fits)
-    (positive_digits c.args.octets.now c.in-Some.n c.from.result some c.in-Some.ensures (omega arith) c.from.ensures)
+    (positive_digits c.args.octets.now c.in-Some.n c.from.result some c.in-Some.ensures.some (omega arith) c.from.ensures)

@@ -1,16 +1,5 @@
-use Rattle.std.proofs.Common.{arith}
-use Rattle.std.proofs.lemmas.Grind.{common_steps}
-use Rattle.kit_base.proofs.Found.{digit-le}
+use Rattle.kit_base.proofs.Found.{number_value}
 use Rattle.kit_base.proofs.decimal.read_number.Goals as goal
 
-pub returns-in_default-clause-none : goal.returns-in_default-clause-none
-returns-in_default-clause-none c = λ _ m fits e.
-    let least = digit-le c.args.word.now c.loop-d.d-index c.loop-d.n m c.loop-d.invariant c.loop-d-test.true (omega arith) (omega arith) e
-    in
-    absurd (grind (arith, common_steps, least, c.in_default.ensures))
-
-pub returns-in_default-checked_add-clause-none : goal.returns-in_default-checked_add-clause-none
-returns-in_default-checked_add-clause-none c = λ _ m fits e.
-    let least = digit-le c.args.word.now c.loop-d.d-index c.loop-d.n m c.loop-d.invariant c.loop-d-test.true (omega arith) (omega arith) e
-    in
-    absurd (grind (arith, common_steps, least, c.in-Some.ensures, c.in_default-checked_add.ensures))
+pub returns-clause-none : goal.returns-clause-none
+returns-clause-none c = λ is m fits e. c.decimal_value.ensures.none is m fits (number_value c.args.word.now m e)
