@@ -112,8 +112,8 @@ fn sending(alloc: Global, table: &Mint, id: NodeId) -> Result<SendCode, NoMemory
     let subs = lower(alloc, Encoding::Xdr, table)?;
     let flat = inline(alloc, &subs, id)?;
     let classes = classify(alloc, Encoding::Xdr, table)?;
-    let code = hoist(alloc, &flat, table, id, &classes)?;
-    rows(alloc, Encoding::Xdr, &code, table, id)
+    let code = hoist(alloc, flat, table, id, &classes)?;
+    rows(alloc, Encoding::Xdr, code, table, id)
 }
 
 /// The code that receives a node over XDR, its rows as blocks.

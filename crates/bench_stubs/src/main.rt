@@ -87,7 +87,7 @@ fn run(alloc: Global, last: Pass, shape: Shape, size: u32) -> Result<Operations>
     if last == Pass::Classify {
         return Ok(operations);
     }
-    match hoist(alloc, &code, &table, id, &classes) {
+    match hoist(alloc, code, &table, id, &classes) {
         Ok(code) => {
             operations.hoisted = count(&code.ops);
             Ok(operations)

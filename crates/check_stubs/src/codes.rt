@@ -16,7 +16,7 @@ use cast_stub::{SendCode, SendSubs};
 use check_rows::{Bad, reported};
 use copy_inline::{inline, rows};
 use hex::encode;
-use hoist::hoist;
+use hoist::{copy_code, hoist};
 use kit_base::NoMemory;
 use mint::fits::fits;
 use mint::table::{Mint, NodeId};
@@ -74,8 +74,9 @@ pub fn message(
     let subs = lower(alloc, enc, table)?;
     let body = inline(alloc, &subs, id)?;
     let whole = both(alloc, head, &body)?;
-    let code = hoist(alloc, &whole, table, id, classes)?;
-    let in_rows = rows(alloc, enc, &code, table, id)?;
+    let code = hoist(alloc, whole, table, id, classes)?;
+    let same = copy_code(alloc, &code)?;
+    let in_rows = rows(alloc, enc, same, table, id)?;
     Ok((code, in_rows))
 }
 

@@ -4,18 +4,10 @@ use Rattle.std.proofs.Math.ListN.{drop_of_length-le}
 use Rattle.std.proofs.lemmas.List.{take_all, append-nil}
 use Rattle.cast_stub.proofs.Trees.{Trees, GoesInto, shown, made, bodies_same}
 use Rattle.chunker.specs.declared.phase.Phase.{Phase}
-use Rattle.chunker.specs.Left.{meet_end, or_unknown}
-
--- what is left behind a block, and behind the bodies of a switch with the end of those before
-pub record Leaves (K : Trees) (leave : Phase → K.Tree → Phase) (ends : Phase → Option Phase → K.Bodies → Option Phase) : Type 0 where
-  pub none : (ph : Phase) (e : Option Phase) → ends ph e K.no_default ≡ e
-  pub last : (ph : Phase) (e : Option Phase) (b : K.Tree) → ends ph e (K.default b) ≡ Some (meet_end e (leave ph b))
-  pub behind : (ph : Phase) (p : List ℕ) (x : K.Bodies) (r : K.Tree)
-      → leave ph (K.switch p x r) ≡ leave (or_unknown (ends ph None x)) r
 
 module _ (K : Trees) where
   open K use {Op, Tree, Bodies, stop, append, switch, Switch, seen, code, bodies, seen-Switch, code-none, code-more}
-  open K use {bodies-none, bodies-last, stop-append, append-assoc, seen-append, code-append}
+  open K use {stop-append, append-assoc, seen-append, code-append}
 
   -- an operation more
   pub pushed : (old new : List Op) (o : Op) (r : Tree) → new ≡ old ++ o ∷ []
@@ -69,36 +61,12 @@ module _ (K : Trees) where
       ∙ ap (λ (x : Phase). put (switch p (g (bodies cases last)) (rest x r))) far
       ∙ sym (ap (λ (x : Tree → Tree). all (x r)) (ap seen is ∙ seen-Switch p cases last) ∙ goes p (bodies cases last) r)
 
-  -- ---- what is left behind a switch
-
-  module _ (leave : Phase → Tree → Phase) (ends : Phase → Option Phase → Bodies → Option Phase) (L : Leaves K leave ends) where
-    switch_ends : (ph : Phase) (e : Option Phase) (items cases : List (ℤ × List Op)) (last : Option (List Op)) (i : ℕ)
-        → ends ph None (bodies items last) ≡ ends ph e (bodies (drop i items) last) → length items ≤ i → items ≡ cases
-        → ends ph None (bodies cases last) ≡ ends ph e (bodies [] last)
-    switch_ends ph e items cases last i inv le same =
-        ap (λ (l : List (ℤ × List Op)). ends ph None (bodies l last)) (sym same) ∙ inv
-        ∙ ap (λ (l : List (ℤ × List Op)). ends ph e (bodies l last)) (drop_of_length-le items le)
-
-    pub ends_some : (ph : Phase) (e : Option Phase) (items cases : List (ℤ × List Op)) (last : Option (List Op)) (body : List Op) (i : ℕ)
-        (x y : Phase) → ends ph None (bodies items last) ≡ ends ph e (bodies (drop i items) last) → length items ≤ i
-        → items ≡ cases → last ≡ Some body → x ≡ leave ph (code body) → y ≡ meet_end e x
-        → y ≡ or_unknown (ends ph None (bodies cases last))
-    ends_some ph e items cases last body i x y inv le same is inner end =
-        end ∙ ap (meet_end e) inner
-        ∙ sym (ap or_unknown (switch_ends ph e items cases last i inv le same
-        ∙ ap (λ (l : Option (List Op)). ends ph e (bodies [] l)) is ∙ ap (ends ph e) (bodies-last body) ∙ L.last ph e (code body)))
-
-    pub ends_none : (ph : Phase) (e : Option Phase) (items cases : List (ℤ × List Op)) (last : Option (List Op)) (i : ℕ) (y : Phase)
-        → ends ph None (bodies items last) ≡ ends ph e (bodies (drop i items) last) → length items ≤ i → items ≡ cases
-        → last ≡ None → y ≡ or_unknown e
-        → y ≡ or_unknown (ends ph None (bodies cases last))
-    ends_none ph e items cases last i y inv le same is end =
-        end ∙ sym (ap or_unknown (switch_ends ph e items cases last i inv le same
-        ∙ ap (λ (l : Option (List Op)). ends ph e (bodies [] l)) is ∙ ap (ends ph e) bodies-none ∙ L.none ph e))
-
-    pub switch_left : (o : Op) (p : List ℕ) (cases : List (ℤ × List Op)) (last : Option (List Op)) (ph end : Phase) (r : Tree)
-        → o ≡ Switch p cases last → end ≡ or_unknown (ends ph None (bodies cases last))
-        → leave ph (seen o r) ≡ leave end r
-    switch_left o p cases last ph end r is e =
-        ap (λ (x : Tree → Tree). leave ph (x r)) (ap seen is ∙ seen-Switch p cases last)
-        ∙ L.behind ph p (bodies cases last) r ∙ ap (λ (x : Phase). leave x r) (sym e)
+  -- what is left behind a switch
+  pub switch_left : (leave : Phase → Tree → Phase) (behind : Phase → Bodies → Phase)
+      → ((ph : Phase) (p : List ℕ) (x : Bodies) (r : Tree) → leave ph (switch p x r) ≡ leave (behind ph x) r)
+      → (o : Op) (p : List ℕ) (cases : List (ℤ × List Op)) (last : Option (List Op)) (ph end : Phase) (r : Tree)
+      → o ≡ Switch p cases last → end ≡ behind ph (bodies cases last)
+      → leave ph (seen o r) ≡ leave end r
+  switch_left leave behind into o p cases last ph end r is e =
+      ap (λ (x : Tree → Tree). leave ph (x r)) (ap seen is ∙ seen-Switch p cases last)
+      ∙ into ph p (bodies cases last) r ∙ ap (λ (x : Phase). leave x r) (sym e)

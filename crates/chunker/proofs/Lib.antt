@@ -24,6 +24,8 @@ pub mod Clauses
 pub mod Bodies
 -- * What one more operation makes of the code that is made so far
 pub mod Making
+-- * Lists that are made from the first member on of what is left of a list
+pub mod Going
 -- * Each operation that receives before what follows it
 pub mod RecvPieces
 -- Gets that stand further on read the same from an earlier place, and leave the place as it is

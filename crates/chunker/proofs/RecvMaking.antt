@@ -12,9 +12,7 @@ use Rattle.chunker.specs.declared.phase.Phase.{Phase}
 use Rattle.chunker.specs.declared.recv_run.RecvRun.{RecvRun}
 use Rattle.chunker.specs.Phases.{IsPhase}
 use Rattle.chunker.specs.RecvChunked.{tested, taken, closed, chunked, cases_chunked}
-use Rattle.chunker.specs.RecvLeft.{leave, cases_leave}
 use Rattle.chunker.specs.RecvMakes.{Places, Takes}
-use Rattle.chunker.proofs.Bodies.{Leaves}
 
 pub tested_some : (m : ℕ) (r : Recv) → m ≢ 0 → tested m r ≡ op_seen (op.Need m) r
 tested_some zero r e = absurd (e refl)
@@ -27,9 +25,6 @@ taken_some (suc n) [] r e = sym (ap (λ (x : Piece). x r) (seen-Take (suc n) [])
 
 pub goes : (ph : Phase) → GoesInto receives (chunked ph 0 [] 0) (cases_chunked ph)
 goes ph = record { none = refl; last = λ b. refl; more = λ n b cs. refl }
-
-pub left : Leaves receives leave cases_leave
-left = record { none = λ ph e. refl; last = λ ph e b. refl; behind = λ ph p x r. refl }
 
 -- an operation that is placed, if that is what the piece becomes
 pub other_takes : (o : RecvOp) (end : Phase) (piece : Piece) (old new : RecvRun) → Places o end old new → IsPhase end

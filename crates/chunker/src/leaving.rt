@@ -39,19 +39,27 @@ fn leave_op(op: &SendOp, phase: Phase) -> Phase
         SendOp::RowSwap(_) => unknown(),
         SendOp::RowWide(_, _) => by_fours(phase),
         SendOp::Each(_, body) => meet(phase, leave(body, unknown())),
-        SendOp::Switch(_, cases, last) => {
-            let mut end = None;
-            for case in cases.as_slice() {
-                end = Some(meet_end(end, leave(&case.1, phase)));
-            }
-            match last {
-                Some(body) => meet_end(end, leave(body, phase)),
-                None => or_unknown(end),
-            }
-        }
+        SendOp::Switch(_, cases, last) => switched(phase, cases, last),
         SendOp::Some(_, body) => meet(phase, leave(body, phase)),
         SendOp::Call(_, _) => unknown(),
         SendOp::Patch(_, _, _) => phase,
+    }
+}
+
+/// Behind a switch.
+#[cycle(leave)]
+pub(crate) fn switched(phase: Phase, cases: &SendCases, last: &SendLast) -> Phase
+    requires phase { IsPhase phase }
+    ensures is { result ≡ switched phase (cases_seen cases.now last.now) }
+    ensures phase { IsPhase result }
+{
+    let mut end = None;
+    for case in cases.as_slice() {
+        end = Some(meet_end(end, leave(&case.1, phase)));
+    }
+    match last {
+        Some(body) => meet_end(end, leave(body, phase)),
+        None => or_unknown(end),
     }
 }
 
@@ -111,20 +119,4 @@ pub(crate) fn perhaps(phase: Phase, body: &SendOps) -> Phase
     ensures phase { IsPhase result }
 {
     meet(phase, leave(body, phase))
-}
-
-/// Behind a switch.
-pub(crate) fn switched(phase: Phase, cases: &SendCases, last: &SendLast) -> Phase
-    requires phase { IsPhase phase }
-    ensures is { result ≡ switched phase (cases_seen cases.now last.now) }
-    ensures phase { IsPhase result }
-{
-    let mut end = None;
-    for case in cases.as_slice() {
-        end = Some(meet_end(end, leave(&case.1, phase)));
-    }
-    match last {
-        Some(body) => meet_end(end, leave(body, phase)),
-        None => or_unknown(end),
-    }
 }

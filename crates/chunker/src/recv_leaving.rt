@@ -41,18 +41,26 @@ fn leave_op(op: &RecvOp, phase: Phase) -> Phase
         RecvOp::Row(_, _) => unknown(),
         RecvOp::RowWide(_, _) => by_fours(phase),
         RecvOp::Each(_, body) => meet(phase, leave(body, unknown())),
-        RecvOp::Switch(_, cases, last) => {
-            let mut end = None;
-            for case in cases.as_slice() {
-                end = Some(meet_end(end, leave(&case.1, phase)));
-            }
-            match last {
-                Some(body) => meet_end(end, leave(body, phase)),
-                None => or_unknown(end),
-            }
-        }
+        RecvOp::Switch(_, cases, last) => switched(phase, cases, last),
         RecvOp::Some(_, body) => meet(phase, leave(body, phase)),
         RecvOp::Call(_, _) => unknown(),
+    }
+}
+
+/// Behind a switch.
+#[cycle(leave)]
+pub(crate) fn switched(phase: Phase, cases: &RecvCases, last: &RecvLast) -> Phase
+    requires phase { IsPhase phase }
+    ensures is { result ≡ switched phase (cases_seen cases.now last.now) }
+    ensures phase { IsPhase result }
+{
+    let mut end = None;
+    for case in cases.as_slice() {
+        end = Some(meet_end(end, leave(&case.1, phase)));
+    }
+    match last {
+        Some(body) => meet_end(end, leave(body, phase)),
+        None => or_unknown(end),
     }
 }
 
@@ -72,20 +80,4 @@ pub(crate) fn perhaps(phase: Phase, body: &RecvOps) -> Phase
     ensures phase { IsPhase result }
 {
     meet(phase, leave(body, phase))
-}
-
-/// Behind a switch.
-pub(crate) fn switched(phase: Phase, cases: &RecvCases, last: &RecvLast) -> Phase
-    requires phase { IsPhase phase }
-    ensures is { result ≡ switched phase (cases_seen cases.now last.now) }
-    ensures phase { IsPhase result }
-{
-    let mut end = None;
-    for case in cases.as_slice() {
-        end = Some(meet_end(end, leave(&case.1, phase)));
-    }
-    match last {
-        Some(body) => meet_end(end, leave(body, phase)),
-        None => or_unknown(end),
-    }
 }

@@ -42,10 +42,10 @@ fn put_open(size: u32, puts: Puts, out: &mut SendOps) -> Result<(), NoMemory>
 pub(crate) fn close(alloc: Global, run: &mut Run) -> Result<(), NoMemory>
     ensures { OnOk result (Closes run.old run.new) }
 {
-    let puts = join_puts(alloc, &run.puts)?;
-    put_open(run.size, puts, &mut run.out)?;
+    let puts = std::mem::replace(&mut run.puts, Puts::new(alloc));
+    let joined = join_puts(alloc, puts)?;
+    put_open(run.size, joined, &mut run.out)?;
     run.size = 0;
-    run.puts.clear();
     Ok(())
 }
 
@@ -81,14 +81,9 @@ fn grow(octets: u32, run: &mut Run) -> Result<(), NoMemory>
 }
 
 /// Puts a chunk.
-pub(crate) fn put_chunk(
-    alloc: Global,
-    size: u32,
-    puts: &Puts,
-    run: &mut Run,
-) -> Result<(), NoMemory>
+pub(crate) fn put_chunk(alloc: Global, size: u32, puts: Puts, run: &mut Run) -> Result<(), NoMemory>
     requires phase { IsPhase run.old.phase }
-    ensures { OnOk result (Takes (chunk size puts.now) run.old run.new) }
+    ensures { OnOk result (Takes (chunk size puts) run.old run.new) }
 {
     move_puts(alloc, run.size, puts, &mut run.puts)?;
     grow(size, run)

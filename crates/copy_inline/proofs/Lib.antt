@@ -52,7 +52,7 @@ pub mod RecvSame
 pub mod RecvShallow
 -- * The code that is given, as the code of a number with its calls replaced
 pub mod RecvWhole
--- * Code with its rows as blocks gives one row for each row or text of that sort, by induction on the type
+-- Code with its rows as blocks gives one row for each row or text of that sort, by induction on the type
 pub mod RowCounts
 -- * What is known by the type at a path; how operations are seen
 pub mod RowEmitting
@@ -62,5 +62,7 @@ pub mod RowGiven
 pub mod RowWhole
 -- * Bodies in step with arms, as a switch; blocks that are ready, by induction on the arms and the block
 pub mod RowsInStep
+-- * Operations and bodies taken from the first on, whose rows are made blocks
+pub mod RowsTaken
 -- * Codes that go through the types of a table have few levels, by induction on the type
 pub mod Shallow

@@ -7,7 +7,7 @@ use Rattle.mint.specs.Types.{Array, Ty, void_type, scalar_type, array_type, grou
 use Rattle.mint.specs.Blank.{depth, fields_depth, arms_depth}
 use Rattle.cast_stub.specs.declared.recv.Get.{Get}
 use Rattle.cast_stub.specs.declared.recv.Get.TheVariants as get
-use Rattle.cast_stub.specs.RecvBlock.{Recv, finish, need, skip_any, skip_zero, pass, desc, each, switch, if_there, call, Cases}
+use Rattle.cast_stub.specs.RecvBlock.{Recv, finish, need, skip_any, skip_zero, pass, desc, each, switch, if_there, Cases}
 use Rattle.cast_stub.specs.RecvAppend.{rebase, get_rebased}
 use Rattle.cast_stub.specs.Got.{no_subs}
 use Rattle.cast_stub.specs.Traces.{descs, IsGetAt, AreGetsAt, IsAt, IsFlat, IsLoop, IsCount, Going, Child, Loops, TracesBy, FieldsTraceBy, ArmsTraceBy, IsTurned}

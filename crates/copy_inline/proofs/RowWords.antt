@@ -2,7 +2,7 @@
 use Rattle.std.proofs.Common.{◌≡◌, ℕ, ℤ, List, [], ◌∷◌, ◌++◌, length, map, replicate, reverse, Option, None, Some, option_map, refl, sym, ap, subst, ◌∙◌, IsTrue}
 use Rattle.std.specs.List.{list_all}
 use Rattle.mint.specs.declared.kind.Kind.{Kind}
-use Rattle.mint.specs.Kinds.{in_range, word, width}
+use Rattle.mint.specs.Kinds.{in_range, width}
 use Rattle.mint.specs.Row.{octets_of, image_of}
 use Rattle.mint.specs.Values.{num, vals_of}
 use Rattle.wire_def.specs.declared.head.Head.{Head}

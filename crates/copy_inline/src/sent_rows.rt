@@ -14,7 +14,6 @@ ghost use Rattle.copy_inline.specs.Sorts.{is_image};
 ghost use Rattle.copy_inline.specs.Rows.{GivesBlocks, IsGiven, IsRowed};
 
 use crate::sorts::{Sort, sort_of};
-use cast_stub::copies::{copy_ops, copy_path, copy_puts};
 use cast_stub::copying::add;
 use cast_stub::layouts::order_of;
 use cast_stub::{Path, SendCases, SendCode, SendLast, SendOp, SendOps, SendSubs};
@@ -34,14 +33,14 @@ fn rows_ops(
     enc: Encoding,
     mint: &Mint,
     id: NodeId,
-    ops: &SendOps,
+    ops: SendOps,
 ) -> Result<SendOps, NoMemory>
     requires id { id < length mint.now }
-    requires ready { IsReady enc (type_at mint.now id) (code_seen ops.now) }
-    ensures { IfOk result (λ os. code_seen os ≡ rowed enc (type_at mint.now id) (code_seen ops.now)) }
+    requires ready { IsReady enc (type_at mint.now id) (code_seen ops) }
+    ensures { IfOk result (λ os. code_seen os ≡ rowed enc (type_at mint.now id) (code_seen ops)) }
 {
-    let mut out = SendOps::new(alloc);
-    for op in ops.as_slice() {
+    let mut out = SendOps::with_room(alloc, ops.len())?;
+    for op in ops.into_items() {
         put_op(alloc, enc, mint, id, op, &mut out)?;
     }
     Ok(out)
@@ -55,37 +54,32 @@ fn put_op(
     enc: Encoding,
     mint: &Mint,
     id: NodeId,
-    op: &SendOp,
+    op: SendOp,
     out: &mut SendOps,
 ) -> Result<(), NoMemory>
     requires id { id < length mint.now }
-    requires ready { IsReady enc (type_at mint.now id) (op_seen op.now stop) }
+    requires ready { IsReady enc (type_at mint.now id) (op_seen op stop) }
     ensures { OnOk result (code_seen out.new
-        ≡ append (code_seen out.old) (rowed enc (type_at mint.now id) (op_seen op.now stop))) }
+        ≡ append (code_seen out.old) (rowed enc (type_at mint.now id) (op_seen op stop))) }
 {
     match op {
-        SendOp::Ensure(n) => add(out, SendOp::Ensure(*n)),
-        SendOp::EnsureRow(path, unit, extra) => {
-            add(
-                out,
-                SendOp::EnsureRow(copy_path(alloc, path)?, *unit, *extra),
-            )
-        }
-        SendOp::Align(a) => add(out, SendOp::Align(*a)),
-        SendOp::Chunk(size, puts) => add(out, SendOp::Chunk(*size, copy_puts(alloc, puts)?)),
-        SendOp::Patch(at, sub, order) => add(out, SendOp::Patch(*at, *sub, *order)),
+        SendOp::Ensure(n) => add(out, SendOp::Ensure(n)),
+        SendOp::EnsureRow(path, unit, extra) => add(out, SendOp::EnsureRow(path, unit, extra)),
+        SendOp::Align(a) => add(out, SendOp::Align(a)),
+        SendOp::Chunk(size, puts) => add(out, SendOp::Chunk(size, puts)),
+        SendOp::Patch(at, sub, order) => add(out, SendOp::Patch(at, sub, order)),
         SendOp::Each(path, body) => {
             let looped = loop_op(alloc, enc, mint, id, path, body)?;
             add(out, looped)
         }
         SendOp::Some(path, body) => {
-            let inner = some_body(alloc, enc, mint, id, path, body)?;
-            add(out, SendOp::Some(copy_path(alloc, path)?, inner))
+            let inner = some_body(alloc, enc, mint, id, &path, body)?;
+            add(out, SendOp::Some(path, inner))
         }
         SendOp::Switch(path, cases, last) => {
-            let (bodies, other) = switch_bodies(alloc, enc, mint, id, path, cases, last)?;
-            let same = copy_path(alloc, path)?;
-            add(out, SendOp::switch(alloc, same, bodies, other)?)
+            let cases = cases.into_value();
+            let (bodies, other) = switch_bodies(alloc, enc, mint, id, &path, cases, last)?;
+            add(out, SendOp::switch(alloc, path, bodies, other)?)
         }
         SendOp::RowCopy(_) | SendOp::RowSwap(_) | SendOp::RowWide(_, _) | SendOp::Call(_, _) => {
             unreachable!()
@@ -101,14 +95,14 @@ fn loop_op(
     enc: Encoding,
     mint: &Mint,
     id: NodeId,
-    path: &Path,
-    body: &SendOps,
+    path: Path,
+    body: SendOps,
 ) -> Result<SendOp, NoMemory>
     requires id { id < length mint.now }
-    requires ready { LoopIs enc (ty_at path.now (type_at mint.now id)) (code_seen body.now)
-        (λ u. IsReady enc u (code_seen body.now)) }
-    ensures { IfOk result (λ o. op_seen o stop ≡ loop_rowed enc (ty_at path.now (type_at mint.now id))
-        path.now (code_seen body.now) (λ u. rowed enc u (code_seen body.now)) stop) }
+    requires ready { LoopIs enc (ty_at path (type_at mint.now id)) (code_seen body)
+        (λ u. IsReady enc u (code_seen body)) }
+    ensures { IfOk result (λ o. op_seen o stop ≡ loop_rowed enc (ty_at path (type_at mint.now id))
+        path (code_seen body) (λ u. rowed enc u (code_seen body)) stop) }
 {
     let Some(part) = node_at(mint, id, path.as_slice()) else {
         unreachable!()
@@ -117,11 +111,11 @@ fn loop_op(
         unreachable!()
     };
     match node {
-        Node::Text(_) => Ok(SendOp::RowCopy(copy_path(alloc, path)?)),
-        Node::Row(kind, count) => row_op(alloc, enc, *kind, *count, path, body),
+        Node::Text(_) => Ok(SendOp::RowCopy(path)),
+        Node::Row(kind, count) => Ok(row_op(enc, *kind, *count, path, body)),
         Node::Items(item, _) => {
             let inner = rows_ops(alloc, enc, mint, *item, body)?;
-            Ok(SendOp::Each(copy_path(alloc, path)?, inner))
+            Ok(SendOp::Each(path, inner))
         }
         Node::Void
         | Node::Num(_)
@@ -134,35 +128,26 @@ fn loop_op(
 
 /// What replaces a loop over a row.
 #[tactic(auto, using(crate::proofs::RowEmitting::emitting))]
-fn row_op(
-    alloc: Global,
-    enc: Encoding,
-    kind: Kind,
-    count: Count,
-    path: &Path,
-    body: &SendOps,
-) -> Result<SendOp, NoMemory>
-    ensures { IfOk result
-        (λ o. op_seen o stop ≡ array_rowed enc (row_of kind count) path.now (code_seen body.now) stop) }
+fn row_op(enc: Encoding, kind: Kind, count: Count, path: Path, body: SendOps) -> SendOp
+    ensures { op_seen result stop ≡ array_rowed enc (row_of kind count) path (code_seen body) stop }
 {
     let order = order_of(enc);
     match sort_of(enc, kind, count) {
-        Sort::Block => block_op(alloc, order, kind, path),
-        Sort::Wide => Ok(SendOp::RowWide(copy_path(alloc, path)?, order)),
-        Sort::Looped => Ok(SendOp::Each(copy_path(alloc, path)?, copy_ops(alloc, body)?)),
+        Sort::Block => block_op(order, kind, path),
+        Sort::Wide => SendOp::RowWide(path, order),
+        Sort::Looped => SendOp::Each(path, body),
     }
 }
 
 /// A row as it is, or with the octets of each number reversed.
 #[tactic(auto, using(crate::proofs::RowEmitting::emitting))]
-fn block_op(alloc: Global, order: Order, kind: Kind, path: &Path) -> Result<SendOp, NoMemory>
-    ensures { IfOk result
-        (λ o. op_seen o stop ≡ row_or_loop Sort.Block (is_image order kind) order path.now stop stop) }
+fn block_op(order: Order, kind: Kind, path: Path) -> SendOp
+    ensures { op_seen result stop ≡ row_or_loop Sort.Block (is_image order kind) order path stop stop }
 {
     if order == Order::Little || kind.width() == 1 {
-        Ok(SendOp::RowCopy(copy_path(alloc, path)?))
+        SendOp::RowCopy(path)
     } else {
-        Ok(SendOp::RowSwap(copy_path(alloc, path)?))
+        SendOp::RowSwap(path)
     }
 }
 
@@ -175,13 +160,13 @@ fn some_body(
     mint: &Mint,
     id: NodeId,
     path: &Path,
-    body: &SendOps,
+    body: SendOps,
 ) -> Result<SendOps, NoMemory>
     requires id { id < length mint.now }
     requires ready { OfType (present_at path.now (type_at mint.now id))
-        (λ u. IsReady enc u (code_seen body.now)) }
+        (λ u. IsReady enc u (code_seen body)) }
     ensures { IfOk result (λ b. code_seen b ≡ by_type (present_at path.now (type_at mint.now id))
-        (code_seen body.now) (λ u. rowed enc u (code_seen body.now))) }
+        (code_seen body) (λ u. rowed enc u (code_seen body))) }
 {
     let Some(part) = node_at(mint, id, path.as_slice()) else {
         unreachable!()
@@ -201,15 +186,15 @@ fn switch_bodies(
     mint: &Mint,
     id: NodeId,
     path: &Path,
-    cases: &SendCases,
-    last: &SendLast,
+    cases: SendCases,
+    last: SendLast,
 ) -> Result<(SendCases, Option<SendOps>), NoMemory>
     requires id { id < length mint.now }
     requires ready { OfType (arms_at path.now (type_at mint.now id))
-        (λ arms. CasesReady enc arms (cases_seen cases.now last.now)) }
+        (λ arms. CasesReady enc arms (cases_seen cases last)) }
     ensures { IfOk result (λ b. cases_seen b.0 b.1
-        ≡ by_type (arms_at path.now (type_at mint.now id)) (cases_seen cases.now last.now)
-        (λ arms. cases_rowed enc arms (cases_seen cases.now last.now))) }
+        ≡ by_type (arms_at path.now (type_at mint.now id)) (cases_seen cases last)
+        (λ arms. cases_rowed enc arms (cases_seen cases last))) }
 {
     let Some(part) = node_at(mint, id, path.as_slice()) else {
         unreachable!()
@@ -231,18 +216,18 @@ fn rows_cases(
     mint: &Mint,
     id: NodeId,
     arms: &Arms,
-    cases: &SendCases,
+    cases: SendCases,
 ) -> Result<SendCases, NoMemory>
     requires id { id < length mint.now }
     requires arms { ArmsBelow id arms.now }
-    requires ready { ArmsReady enc (unfolded mint.now) arms.now cases.now }
-    ensures { IfOk result (λ bodies. AreRowed enc (unfolded mint.now) arms.now cases.now bodies) }
+    requires ready { ArmsReady enc (unfolded mint.now) arms.now cases }
+    ensures { IfOk result (λ bodies. AreRowed enc (unfolded mint.now) arms.now cases bodies) }
 {
     let arms = arms.as_slice();
-    let cases = cases.as_slice();
     let mut bodies = SendCases::new(alloc);
-    for i in 0..cases.len() {
-        bodies.push(rows_case(alloc, enc, mint, id, &arms[i], &cases[i])?)?;
+    for case in cases.into_entries() {
+        let arm = &arms[bodies.len()];
+        bodies.push(rows_case(alloc, enc, mint, id, arm, case)?)?;
     }
     Ok(bodies)
 }
@@ -256,14 +241,15 @@ fn rows_case(
     mint: &Mint,
     id: NodeId,
     arm: &(i128, NodeId),
-    case: &(i128, SendOps),
+    case: (i128, SendOps),
 ) -> Result<(i128, SendOps), NoMemory>
     requires id { id < length mint.now }
     requires arm { arm.now.1 < id }
-    requires ready { IsReady enc (type_at mint.now arm.now.1) (code_seen case.now.1) }
-    ensures { IfOk result (λ body. IsRowedBody enc (type_at mint.now arm.now.1) case.now body) }
+    requires ready { IsReady enc (type_at mint.now arm.now.1) (code_seen case.1) }
+    ensures { IfOk result (λ body. IsRowedBody enc (type_at mint.now arm.now.1) case body) }
 {
-    Ok((case.0, rows_ops(alloc, enc, mint, arm.1, &case.1)?))
+    let (n, body) = case;
+    Ok((n, rows_ops(alloc, enc, mint, arm.1, body)?))
 }
 
 /// The body of every other number.
@@ -275,17 +261,17 @@ fn rows_last(
     mint: &Mint,
     id: NodeId,
     other: Option<NodeId>,
-    last: &SendLast,
+    last: SendLast,
 ) -> Result<Option<SendOps>, NoMemory>
     requires id { id < length mint.now }
     requires other { IsBelow id other }
-    requires ready { CasesReady enc (others_at (unfolded mint.now) other) (cases_seen [] last.now) }
+    requires ready { CasesReady enc (others_at (unfolded mint.now) other) (cases_seen [] last) }
     ensures { IfOk result (λ rest. cases_seen [] rest
-        ≡ cases_rowed enc (others_at (unfolded mint.now) other) (cases_seen [] last.now)) }
+        ≡ cases_rowed enc (others_at (unfolded mint.now) other) (cases_seen [] last)) }
 {
     match last {
         Some(body) => match other {
-            Some(child) => Ok(Some(rows_ops(alloc, enc, mint, child, body)?)),
+            Some(child) => Ok(Some(rows_ops(alloc, enc, mint, child, body.into_value())?)),
             None => unreachable!(),
         },
         None => Ok(None),
@@ -298,24 +284,24 @@ fn rows_last(
 pub fn rows(
     alloc: Global,
     enc: Encoding,
-    code: &SendCode,
+    code: SendCode,
     mint: &Mint,
     id: NodeId,
 ) -> Result<SendCode, NoMemory>
     requires id { id < length mint.now }
-    requires given { IsGiven enc (type_at mint.now id) code.now }
+    requires given { IsGiven enc (type_at mint.now id) code }
     // What it keeps.
-    ensures same { IfOk result (λ r. SendsTheSameAt Anywhere (type_at mint.now id) code.now r) }
-    ensures covered { IfOk result (λ r. StaysCoveredAt Anywhere (type_at mint.now id) code.now r) }
-    ensures checks { IfOk result (λ r. ChecksTheSame (type_at mint.now id) code.now r) }
+    ensures same { IfOk result (λ r. SendsTheSameAt Anywhere (type_at mint.now id) code r) }
+    ensures covered { IfOk result (λ r. StaysCoveredAt Anywhere (type_at mint.now id) code r) }
+    ensures checks { IfOk result (λ r. ChecksTheSame (type_at mint.now id) code r) }
     ensures subs { IfOk result (λ r. r.subs ≡ []) }
     ensures calls { IfOk result (λ r. HasNoCall (code_seen r.ops)) }
     // What it changes.
-    ensures rowed { IfOk result (λ r. IsRowed enc (type_at mint.now id) code.now r) }
+    ensures rowed { IfOk result (λ r. IsRowed enc (type_at mint.now id) code r) }
     ensures blocks { IfOk result (λ r. GivesBlocks enc (type_at mint.now id) r) }
 {
     Ok(SendCode {
-        ops: rows_ops(alloc, enc, mint, id, &code.ops)?,
+        ops: rows_ops(alloc, enc, mint, id, code.ops)?,
         subs: SendSubs::new(alloc),
     })
 }

@@ -1,13 +1,12 @@
 -- Hoisted code ensures each big row by the length of its list, by induction on the code.
 use Rattle.std.proofs.Common.{◌≡◌, ℕ, zero, suc, ◌-◌, List, Option, None, Some, refl, sym, subst, Bool, true, false, nat_lt}
 use Rattle.mint.specs.Types.{Ty, Arms, no_other, others, arm_type}
-use Rattle.mint.specs.declared.kind.Count.{Count}
 use Rattle.cast_stub.specs.Parts.{on_some, IsThere}
-use Rattle.cast_stub.specs.Block.{Block, stop, ensure, align, chunk, each, switch, if_there, patch, Cases, no_default, default, case}
+use Rattle.cast_stub.specs.Block.{Block, stop, align, chunk, each, switch, if_there, patch, Cases, no_default, default, case}
 use Rattle.cast_stub.specs.PartTypes.{element_at, present_at, arms_at}
 use Rattle.cast_stub.specs.Bare.{IfTyped}
 use Rattle.hoist.specs.Bound.{most, times, bound, cases_bound}
-use Rattle.hoist.specs.Hoisted.{Pending, nothing, octets, row, raised, Hoisted, closed, Plan, flat, small, loop, apart, enough, beside, settled, Role, is_small, is_row, is_break, Roles, loop_plan, body_plan, turn_bound, kept, items_at, or_void, or_none, hoisted, cases_hoisted, InType, IfRow, WhereApart, IsTaken, CasesTaken}
+use Rattle.hoist.specs.Hoisted.{Pending, nothing, octets, row, raised, Hoisted, closed, flat, small, loop, enough, beside, settled, Role, is_small, is_row, is_break, Roles, loop_plan, body_plan, turn_bound, kept, items_at, or_void, or_none, hoisted, cases_hoisted, InType, IfRow, WhereApart, IsTaken, CasesTaken}
 use Rattle.hoist.specs.Rows.{IfBreak, RowsEnsured, CasesRowsEnsured}
 use Rattle.hoist.specs.Laws.{HoistingEnsuresRows}
 use Rattle.hoist.proofs.Sparse.{apart_typed}

@@ -1,10 +1,14 @@
 -- Bodies in step with arms, as a switch; blocks that are taken, by induction on the arms and the block.
 use Rattle.wire_def.specs.declared.encoding.Encoding.{Encoding}
-use Rattle.std.proofs.Common.{◌≡◌, ℕ, zero, suc, ◌<◌, ℤ, List, [], ◌∷◌, length, get_or, Option, Some, None, ap, ◌∙◌, arith}
+use Rattle.std.proofs.Common.{rules, ◌≡◌, ℕ, zero, suc, ◌+◌, ◌<◌, ◌≤◌, ℤ, List, [], ◌∷◌, ◌++◌, length, get_or, Option, Some, None, sym, ap, ◌∙◌, subst, arith}
+use Rattle.std.proofs.Math.ListN.{take, drop}
+use Rattle.std.proofs.lemmas.List.{length-append, length-drop, drop_more}
 use Rattle.mint.specs.Types.{Ty, at, arms_at, others_at, ArmsBelow}
 use Rattle.cast_stub.specs.declared.send.SendOp.{SendOp}
 use Rattle.cast_stub.specs.Block.{Block, stop, align, chunk, each, switch, if_there, patch, case, code_seen, cases_seen}
 use Rattle.cast_stub.specs.Append.{append}
+use Rattle.cast_stub.specs.InStep.{AllInStep}
+use Rattle.cast_stub.proofs.InStep.{more-have}
 use Rattle.hoist.specs.Hoisted.{closed, hoisted, cases_hoisted, IsTaken, CasesTaken}
 use Rattle.hoist.specs.Seen.{span_roles, AreHoisted, ArmsTaken}
 
@@ -13,6 +17,33 @@ pub arm-below : (k : ℕ) (arms : List (ℤ × ℕ)) (i : ℕ) (d : ℤ × ℕ) 
 arm-below k [] i d lt h = absurd (omega (arith, lt))
 arm-below k (a ∷ arms) zero d lt h = h.0
 arm-below k (a ∷ arms) (suc i) d lt h = arm-below k arms i d (omega (arith, lt)) h.1
+
+-- what is left of a list begins with the member at its place
+pub next-left : {A : Type 0} (xs left : List A) (i n : ℕ) (x : A) → i ≡ n → drop n xs ≡ x ∷ left
+    → (i < length xs) × (x ≡ get_or xs i x) × (drop (i + 1) xs ≡ left)
+next-left xs left i n x here e =
+    let lt : i < length xs = omega (arith, ap length e, length-drop n xs, here) in
+    let is : get_or xs i x ∷ drop (i + 1) xs ≡ x ∷ left =
+    sym (drop_more xs i x lt) ∙ ap (λ (k : ℕ). drop k xs) here ∙ e in
+    (lt, search (rules, is), search (rules, is))
+
+-- where nothing is left, all were taken
+pub none-left : {A : Type 0} (xs : List A) (n : ℕ) → drop n xs ≡ [] → length xs ≤ n
+none-left xs n e = omega (arith, ap length e, length-drop n xs)
+
+-- one more in step, where the lists are taken to the length of the third
+pub longer-have : {A B C : Type 0} (R : A → B → C → Type 0) (xs : List A) (ys left : List B) (zs new : List C)
+    (i : ℕ) (d : A) (y : B) (z : C) → length xs ≡ length ys → i ≡ length zs → drop (length zs) ys ≡ y ∷ left
+    → AllInStep R (take (length zs) xs) (take (length zs) ys) zs → R (get_or xs i d) y z → new ≡ zs ++ z ∷ []
+    → (drop (length new) ys ≡ left) × AllInStep R (take (length new) xs) (take (length new) ys) new
+longer-have {A} {B} {C} R xs ys left zs new i d y z many here e h k made =
+    let next = next-left ys left i (length zs) y here e in
+    let grown : i + 1 ≡ length new = omega (arith, here, ap length made, length-append zs (z ∷ [])) in (
+      ap (λ (n : ℕ). drop n ys) (sym grown) ∙ next.2,
+      subst (λ (n : ℕ). AllInStep R (take n xs) (take n ys) new) grown
+          (more-have R xs ys zs new i d y z many next.0 next.1
+          (subst (λ (n : ℕ). AllInStep R (take n xs) (take n ys) zs) (sym here) h) k made),
+    )
 
 module _ (enc : Encoding) (us : List Ty) where
   -- bodies that are taken as a switch are taken in step, and so is the last

@@ -1,5 +1,5 @@
 -- The least of eight.
-use Rattle.std.proofs.Common.{◌≡◌, ℕ, min, List, [], ◌∷◌, get_or, length, refl, sym, ap, ◌∙◌, arith}
+use Rattle.std.proofs.Common.{◌≡◌, ℕ, min, List, [], ◌∷◌, get_or, length, ap, ◌∙◌, arith}
 use Rattle.hoist.specs.SpanSizes.{least}
 
 min_joins : (a b c : ℕ) → min (min a b) c ≡ min a (min b c)

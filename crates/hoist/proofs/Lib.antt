@@ -40,6 +40,8 @@ pub mod OnWay
 pub mod Reversed
 -- * Operations put before code that was visited
 pub mod Passing
+-- * Operations that are visited from the last to the first
+pub mod Visited
 -- Plans by the roles of operations and the bounds of their bodies
 pub mod Planned
 -- * Spans are sizes that belong together, by induction on the type

@@ -50,13 +50,12 @@ module _ (enc : Encoding) (t : Ty) where
       (λ r. ap (λ (p : Piece). hoisted (span_roles enc) t (p r)) (ap op_seen is ∙ seen-Align a)) (seen-Align a)
       (ap (pair (code_seen (reverse back))) (e ∙ ap (λ (k : ℕ). raised k (ahead_seen ah)) one)) made
 
-  pub front-chunk : (o : SendOp) (s : ℕ) (puts puts' : List Put) (back new : List SendOp) (ah then : Ahead) → o ≡ op.Chunk s puts
-      → puts' ≡ puts → new ≡ back ++ op.Chunk s puts' ∷ [] → ahead_seen then ≡ raised s (ahead_seen ah)
+  pub front-chunk : (o : SendOp) (s : ℕ) (puts : List Put) (back new : List SendOp) (ah then : Ahead) → o ≡ op.Chunk s puts
+      → new ≡ back ++ op.Chunk s puts ∷ [] → ahead_seen then ≡ raised s (ahead_seen ah)
       → InFront enc t o (after back ah) (after new then)
-  front-chunk o s puts puts' back new ah then is same made e =
-      turned o (op.Chunk s puts') (chunk s puts) (settled (flat s)) back back new ah then
-      (λ r. ap (λ (p : Piece). hoisted (span_roles enc) t (p r)) (ap op_seen is ∙ seen-Chunk s puts))
-      (seen-Chunk s puts' ∙ ap (λ (l : List Put). piece (chunk s l)) same)
+  front-chunk o s puts back new ah then is made e =
+      turned o (op.Chunk s puts) (chunk s puts) (settled (flat s)) back back new ah then
+      (λ r. ap (λ (p : Piece). hoisted (span_roles enc) t (p r)) (ap op_seen is ∙ seen-Chunk s puts)) (seen-Chunk s puts)
       (ap (pair (code_seen (reverse back))) e) made
 
   pub front-patch : (o : SendOp) (at sub : ℕ) (order : Order) (back new : List SendOp) (ah : Ahead) → o ≡ op.Patch at sub order
@@ -67,71 +66,61 @@ module _ (enc : Encoding) (t : Ty) where
       (λ r. ap (λ (p : Piece). hoisted (span_roles enc) t (p r)) (ap op_seen is ∙ seen-Patch at sub order)) (seen-Patch at sub order) refl
       made
 
-  -- a plan and a path that are those of the definition
-  as_planned : (path path' : List ℕ) (plan : CodePlan) (plan' : Plan) (back mid : List SendOp) (ah then : Ahead) → path' ≡ path
-      → plan_seen path plan ≡ plan' → after mid then ≡ settled (plan_seen path' plan) (after back ah)
-      → after mid then ≡ settled plan' (after back ah)
-  as_planned path path' plan plan' back mid ah then same is e =
-      e ∙ ap (λ (q : List ℕ). settled (plan_seen q plan) (after back ah)) same ∙ ap (λ (x : Plan). settled x (after back ah)) is
-
   -- an operation with bodies, which its plan keeps or hoists by themselves
-  front-bodies : {A : Type 0} (o o' : SendOp) (put : List ℕ → A → Block → Block) (path path' path'' : List ℕ) (given inner made' : A)
+  front-bodies : {A : Type 0} (o o' : SendOp) (put : List ℕ → A → Block → Block) (path : List ℕ) (given inner made' : A)
       (plan : CodePlan) (plan' : Plan) (back mid new : List SendOp) (ah then : Ahead)
       → ((r : Block)
       → hoisted (span_roles enc) t (op_seen o r)
       ≡ pair (put path (kept plan' given made') (settled plan' (hoisted (span_roles enc) t r)).0)
       (settled plan' (hoisted (span_roles enc) t r)).1)
-      → op_seen o' ≡ put path'' inner → path' ≡ path → path'' ≡ path → plan_seen path plan ≡ plan'
-      → inner ≡ kept (plan_seen path plan) given made' → after mid then ≡ settled (plan_seen path' plan) (after back ah)
-      → new ≡ mid ++ o' ∷ []
+      → op_seen o' ≡ put path inner → plan_seen path plan ≡ plan' → inner ≡ kept (plan_seen path plan) given made'
+      → after mid then ≡ settled (plan_seen path plan) (after back ah) → new ≡ mid ++ o' ∷ []
       → InFront enc t o (after back ah) (after new then)
-  front-bodies {A} o o' put path path' path'' given inner made' plan plan' back mid new ah then go seen same same' planned made e new' =
+  front-bodies {A} o o' put path given inner made' plan plan' back mid new ah then go seen planned made e new' =
       turned o o' (put path (kept plan' given made')) (settled plan') back mid new ah then go
-      (seen ∙ ap (λ (q : List ℕ). piece (put q inner)) same'
-      ∙ ap (λ (x : A). piece (put path x)) (made ∙ ap (λ (x : Plan). kept x given made') planned))
-      (as_planned path path' plan plan' back mid ah then same planned e) new'
+      (seen ∙ ap (λ (x : A). piece (put path x)) (made ∙ ap (λ (x : Plan). kept x given made') planned))
+      (e ∙ ap (λ (x : Plan). settled x (after back ah)) planned) new'
 
-  pub front-each : (o : SendOp) (path path' path'' : List ℕ) (body inner : List SendOp) (plan : CodePlan) (back mid new : List SendOp)
-      (ah then : Ahead) → o ≡ op.Each path body → path' ≡ path → path'' ≡ path
+  pub front-each : (o : SendOp) (path : List ℕ) (body inner : List SendOp) (plan : CodePlan) (back mid new : List SendOp)
+      (ah then : Ahead) → o ≡ op.Each path body
       → plan_seen path plan ≡ each_plan (span_roles enc) t path (code_seen body)
       → code_seen inner ≡ kept (plan_seen path plan) (code_seen body)
       (closed (hoisted (span_roles enc) (or_void (items_at path t)) (code_seen body)))
-      → after mid then ≡ settled (plan_seen path' plan) (after back ah) → new ≡ mid ++ op.Each path'' inner ∷ []
+      → after mid then ≡ settled (plan_seen path plan) (after back ah) → new ≡ mid ++ op.Each path inner ∷ []
       → InFront enc t o (after back ah) (after new then)
-  front-each o path path' path'' body inner plan back mid new ah then is =
-      front-bodies o (op.Each path'' inner) each path path' path'' (code_seen body) (code_seen inner)
+  front-each o path body inner plan back mid new ah then is =
+      front-bodies o (op.Each path inner) each path (code_seen body) (code_seen inner)
       (closed (hoisted (span_roles enc) (or_void (items_at path t)) (code_seen body))) plan
       (each_plan (span_roles enc) t path (code_seen body)) back mid new ah then
-      (λ r. ap (λ (p : Piece). hoisted (span_roles enc) t (p r)) (ap op_seen is ∙ seen-Each path body)) (seen-Each path'' inner)
+      (λ r. ap (λ (p : Piece). hoisted (span_roles enc) t (p r)) (ap op_seen is ∙ seen-Each path body)) (seen-Each path inner)
 
-  pub front-some : (o : SendOp) (path path' path'' : List ℕ) (body inner : List SendOp) (plan : CodePlan) (back mid new : List SendOp)
-      (ah then : Ahead) → o ≡ op.Some path body → path' ≡ path → path'' ≡ path
+  pub front-some : (o : SendOp) (path : List ℕ) (body inner : List SendOp) (plan : CodePlan) (back mid new : List SendOp)
+      (ah then : Ahead) → o ≡ op.Some path body
       → plan_seen path plan ≡ some_plan (span_roles enc) t path (code_seen body)
       → code_seen inner ≡ kept (plan_seen path plan) (code_seen body)
       (closed (hoisted (span_roles enc) (or_void (present_at path t)) (code_seen body)))
-      → after mid then ≡ settled (plan_seen path' plan) (after back ah) → new ≡ mid ++ op.Some path'' inner ∷ []
+      → after mid then ≡ settled (plan_seen path plan) (after back ah) → new ≡ mid ++ op.Some path inner ∷ []
       → InFront enc t o (after back ah) (after new then)
-  front-some o path path' path'' body inner plan back mid new ah then is =
-      front-bodies o (op.Some path'' inner) if_there path path' path'' (code_seen body) (code_seen inner)
+  front-some o path body inner plan back mid new ah then is =
+      front-bodies o (op.Some path inner) if_there path (code_seen body) (code_seen inner)
       (closed (hoisted (span_roles enc) (or_void (present_at path t)) (code_seen body))) plan
       (some_plan (span_roles enc) t path (code_seen body)) back mid new ah then
-      (λ r. ap (λ (p : Piece). hoisted (span_roles enc) t (p r)) (ap op_seen is ∙ seen-Some path body)) (seen-Some path'' inner)
+      (λ r. ap (λ (p : Piece). hoisted (span_roles enc) t (p r)) (ap op_seen is ∙ seen-Some path body)) (seen-Some path inner)
 
-  pub front-switch : (o o' : SendOp) (path path' path'' : List ℕ) (cases bodies : List (ℤ × List SendOp)) (last rest : Option (List SendOp))
+  pub front-switch : (o : SendOp) (path : List ℕ) (cases bodies : List (ℤ × List SendOp)) (last rest : Option (List SendOp))
       (plan : CodePlan) (back mid new : List SendOp) (ah then : Ahead) → o ≡ op.Switch path cases last
-      → o' ≡ op.Switch path'' bodies rest → path' ≡ path → path'' ≡ path
       → plan_seen path plan ≡ switch_plan (span_roles enc) t path (cases_seen cases last)
       → cases_seen bodies rest
       ≡ kept (plan_seen path plan) (cases_seen cases last)
       (cases_hoisted (span_roles enc) (or_none (arms_at path t)) (cases_seen cases last))
-      → after mid then ≡ settled (plan_seen path' plan) (after back ah) → new ≡ mid ++ o' ∷ []
+      → after mid then ≡ settled (plan_seen path plan) (after back ah) → new ≡ mid ++ op.Switch path bodies rest ∷ []
       → InFront enc t o (after back ah) (after new then)
-  front-switch o o' path path' path'' cases bodies last rest plan back mid new ah then is made =
-      front-bodies o o' switch path path' path'' (cases_seen cases last) (cases_seen bodies rest)
+  front-switch o path cases bodies last rest plan back mid new ah then is =
+      front-bodies o (op.Switch path bodies rest) switch path (cases_seen cases last) (cases_seen bodies rest)
       (cases_hoisted (span_roles enc) (or_none (arms_at path t)) (cases_seen cases last)) plan
       (switch_plan (span_roles enc) t path (cases_seen cases last)) back mid new ah then
       (λ r. ap (λ (p : Piece). hoisted (span_roles enc) t (p r)) (ap op_seen is ∙ seen-Switch path cases last))
-      (ap op_seen made ∙ seen-Switch path'' bodies rest)
+      (seen-Switch path bodies rest)
 
   -- the bodies of a switch that is taken
   pub switch-taken : (o : SendOp) (path : List ℕ) (cases : List (ℤ × List SendOp)) (last : Option (List SendOp)) (plan : CodePlan)

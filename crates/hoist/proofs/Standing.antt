@@ -1,5 +1,5 @@
 -- What the parts of a type are, and where a row is pending.
-use Rattle.std.proofs.Common.{◌≡◌, ℕ, suc, ◌+◌, ◌-◌, ◌≤◌, List, [], Option, None, Some, refl, ap, ◌∙◌, arith, Bool, true, false, nat_le, if◌then◌else◌}
+use Rattle.std.proofs.Common.{◌≡◌, ℕ, suc, ◌+◌, ◌≤◌, List, [], Option, None, Some, refl, ap, ◌∙◌, arith, Bool, true, false, nat_le, if◌then◌else◌}
 use Rattle.std.proofs.lemmas.Bool.Decides.{nat_tests}
 use Rattle.mint.specs.Types.{Ty, array_type, group_type, items_type, choice_type, maybe_type}
 use Rattle.mint.specs.Values.{Val, group, items, arm, absent, present, Vals, val}

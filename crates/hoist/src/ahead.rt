@@ -5,8 +5,10 @@ ghost use Rattle.cast_stub.specs.Block.{code_seen};
 ghost use Rattle.hoist.specs.Hoisted.{raised, some_octets, closed, settled, small, loop};
 ghost use Rattle.hoist.specs.Seen.{ahead_seen, after, plan_seen};
 
+use cast_stub::copies::copy_path;
 use cast_stub::{Path, SendOp};
 use kit_base::NoMemory;
+use std::alloc::Global;
 
 /// What is to be ensured.
 #[derive(Drop)]
@@ -116,17 +118,18 @@ fn set_loop(back: &mut Vec<SendOp>, ahead: Ahead, path: Path, unit: u32) -> Resu
 /// An operation with bodies before them.
 #[tactic(auto, using(crate::proofs::Reversed::reversed))]
 pub(crate) fn settle(
+    alloc: Global,
     back: &mut Vec<SendOp>,
     ahead: Ahead,
     plan: Plan,
-    path: Path,
+    path: &Path,
 ) -> Result<Ahead, NoMemory>
     ensures { IfOk result
-        (λ a. after back.new.items a ≡ settled (plan_seen path plan) (after back.old.items ahead)) }
+        (λ a. after back.new.items a ≡ settled (plan_seen path.now plan) (after back.old.items ahead)) }
 {
     match plan {
         Plan::Small(n, k) => set_small(back, ahead, n, k),
-        Plan::Loop(unit) => set_loop(back, ahead, path, unit),
+        Plan::Loop(unit) => set_loop(back, ahead, copy_path(alloc, path)?, unit),
         Plan::Apart => {
             flush(back, ahead)?;
             Ok(Ahead::Nothing)

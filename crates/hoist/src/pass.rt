@@ -15,9 +15,8 @@ ghost use Rattle.hoist.specs.Seen.{AreHoisted, ArmsTaken, IsHoisted, after, plan
 use crate::ahead::{Ahead, Plan, flush, raise, settle};
 use crate::parts::node_at;
 use crate::plans::{each_plan, some_plan, switch_plan};
-use cast_stub::copies::{copy_cases, copy_last, copy_ops, copy_path, copy_puts};
 use cast_stub::{Path, SendCases, SendCode, SendLast, SendOp, SendOps, SendSubs};
-use kit_base::NoMemory;
+use kit_base::{Boxed, NoMemory};
 use mint::node::{Arms, Node};
 use mint::table::{Mint, NodeId};
 use std::alloc::Global;
@@ -35,6 +34,11 @@ fn in_order(alloc: Global, back: Vec<SendOp>) -> Result<SendOps, NoMemory>
     Ok(ops)
 }
 
+/// The room that operations and their ensures take, of which one at most stands before each, and one before all.
+fn room_of(many: usize) -> usize {
+    many.saturating_mul(2).saturating_add(1)
+}
+
 /// The operations with ensures before them, for a value of the node.
 #[cycle(hoist)]
 pub(crate) fn hoist_ops(
@@ -42,19 +46,19 @@ pub(crate) fn hoist_ops(
     mint: &Mint,
     classes: &Classes,
     id: NodeId,
-    ops: &SendOps,
+    ops: SendOps,
 ) -> Result<SendOps, NoMemory>
     requires id { id < length mint.now }
     requires classes { AreClasses mint.now classes.now }
-    requires taken { IsTaken (span_roles classes.now.enc) (type_at mint.now id) (code_seen ops.now) }
+    requires taken { IsTaken (span_roles classes.now.enc) (type_at mint.now id) (code_seen ops) }
     ensures { IfOk result (λ os. code_seen os
-        ≡ closed (hoisted (span_roles classes.now.enc) (type_at mint.now id) (code_seen ops.now))) }
+        ≡ closed (hoisted (span_roles classes.now.enc) (type_at mint.now id) (code_seen ops))) }
 {
-    let list = ops.as_slice();
-    let mut back = Vec::new(alloc);
+    let mut rest = ops.into_items();
+    let mut back = Vec::with_capacity(alloc, room_of(rest.len()))?;
     let mut ahead = Ahead::Nothing;
-    for i in (0..list.len()).rev() {
-        ahead = hoist_op(alloc, mint, classes, id, &list[i], &mut back, ahead)?;
+    while let Some(op) = rest.pop() {
+        ahead = hoist_op(alloc, mint, classes, id, op, &mut back, ahead)?;
     }
     flush(&mut back, ahead)?;
     in_order(alloc, back)
@@ -67,48 +71,50 @@ fn hoist_op(
     mint: &Mint,
     classes: &Classes,
     id: NodeId,
-    op: &SendOp,
+    op: SendOp,
     back: &mut Vec<SendOp>,
     ahead: Ahead,
 ) -> Result<Ahead, NoMemory>
     requires id { id < length mint.now }
     requires classes { AreClasses mint.now classes.now }
-    requires taken { IsTaken (span_roles classes.now.enc) (type_at mint.now id) (op_seen op.now stop) }
-    ensures { IfOk result (λ then. InFront classes.now.enc (type_at mint.now id) op.now
+    requires taken { IsTaken (span_roles classes.now.enc) (type_at mint.now id) (op_seen op stop) }
+    ensures { IfOk result (λ then. InFront classes.now.enc (type_at mint.now id) op
         (after back.old.items ahead) (after back.new.items then)) }
 {
     match op {
         SendOp::Align(a) => {
-            back.push(SendOp::Align(*a))?;
+            back.push(SendOp::Align(a))?;
             raise(ahead, a.saturating_sub(1))
         }
         SendOp::Chunk(size, puts) => {
-            back.push(SendOp::Chunk(*size, copy_puts(alloc, puts)?))?;
-            raise(ahead, *size)
+            back.push(SendOp::Chunk(size, puts))?;
+            raise(ahead, size)
         }
         SendOp::Patch(at, sub, order) => {
-            back.push(SendOp::Patch(*at, *sub, *order))?;
+            back.push(SendOp::Patch(at, sub, order))?;
             Ok(ahead)
         }
         SendOp::Each(path, body) => {
-            let plan = each_plan(mint, classes, id, path, body)?;
-            let inner = each_body(alloc, mint, classes, id, path, body, plan)?;
-            let then = settle(back, ahead, plan, copy_path(alloc, path)?)?;
-            back.push(SendOp::Each(copy_path(alloc, path)?, inner))?;
+            let plan = each_plan(mint, classes, id, &path, &body)?;
+            let inner = each_body(alloc, mint, classes, id, &path, body, plan)?;
+            let then = settle(alloc, back, ahead, plan, &path)?;
+            back.push(SendOp::Each(path, inner))?;
             Ok(then)
         }
         SendOp::Some(path, body) => {
-            let plan = some_plan(mint, classes, id, path, body)?;
-            let inner = some_body(alloc, mint, classes, id, path, body, plan)?;
-            let then = settle(back, ahead, plan, copy_path(alloc, path)?)?;
-            back.push(SendOp::Some(copy_path(alloc, path)?, inner))?;
+            let plan = some_plan(mint, classes, id, &path, &body)?;
+            let inner = some_body(alloc, mint, classes, id, &path, body, plan)?;
+            let then = settle(alloc, back, ahead, plan, &path)?;
+            back.push(SendOp::Some(path, inner))?;
             Ok(then)
         }
         SendOp::Switch(path, cases, last) => {
-            let plan = switch_plan(mint, classes, id, path, cases, last)?;
-            let (bodies, other) = switch_bodies(alloc, mint, classes, id, path, cases, last, plan)?;
-            let then = settle(back, ahead, plan, copy_path(alloc, path)?)?;
-            back.push(SendOp::switch(alloc, copy_path(alloc, path)?, bodies, other)?)?;
+            let plan = switch_plan(mint, classes, id, &path, &cases, &last)?;
+            let (bodies, other) = switch_bodies(
+                alloc, mint, classes, id, &path, cases, last, plan,
+            )?;
+            let then = settle(alloc, back, ahead, plan, &path)?;
+            back.push(SendOp::Switch(path, bodies, other))?;
             Ok(then)
         }
         SendOp::Ensure(_)
@@ -128,19 +134,19 @@ fn each_body(
     classes: &Classes,
     id: NodeId,
     path: &Path,
-    body: &SendOps,
+    body: SendOps,
     plan: Plan,
 ) -> Result<SendOps, NoMemory>
     requires id { id < length mint.now }
     requires classes { AreClasses mint.now classes.now }
     requires taken { WhereApart (plan_seen path.now plan) (InType (items_at path.now (type_at mint.now id))
-        (λ u. IsTaken (span_roles classes.now.enc) u (code_seen body.now))) }
-    ensures { IfOk result (λ b. code_seen b ≡ kept (plan_seen path.now plan) (code_seen body.now)
+        (λ u. IsTaken (span_roles classes.now.enc) u (code_seen body))) }
+    ensures { IfOk result (λ b. code_seen b ≡ kept (plan_seen path.now plan) (code_seen body)
         (closed (hoisted (span_roles classes.now.enc) (or_void (items_at path.now (type_at mint.now id)))
-        (code_seen body.now)))) }
+        (code_seen body)))) }
 {
     match plan {
-        Plan::Small(_, _) | Plan::Loop(_) => copy_ops(alloc, body),
+        Plan::Small(_, _) | Plan::Loop(_) => Ok(body),
         Plan::Apart => {
             let Some(part) = node_at(mint, id, path.as_slice()) else {
                 unreachable!()
@@ -161,19 +167,19 @@ fn some_body(
     classes: &Classes,
     id: NodeId,
     path: &Path,
-    body: &SendOps,
+    body: SendOps,
     plan: Plan,
 ) -> Result<SendOps, NoMemory>
     requires id { id < length mint.now }
     requires classes { AreClasses mint.now classes.now }
     requires taken { WhereApart (plan_seen path.now plan) (InType (present_at path.now (type_at mint.now id))
-        (λ u. IsTaken (span_roles classes.now.enc) u (code_seen body.now))) }
-    ensures { IfOk result (λ b. code_seen b ≡ kept (plan_seen path.now plan) (code_seen body.now)
+        (λ u. IsTaken (span_roles classes.now.enc) u (code_seen body))) }
+    ensures { IfOk result (λ b. code_seen b ≡ kept (plan_seen path.now plan) (code_seen body)
         (closed (hoisted (span_roles classes.now.enc) (or_void (present_at path.now (type_at mint.now id)))
-        (code_seen body.now)))) }
+        (code_seen body)))) }
 {
     match plan {
-        Plan::Small(_, _) | Plan::Loop(_) => copy_ops(alloc, body),
+        Plan::Small(_, _) | Plan::Loop(_) => Ok(body),
         Plan::Apart => {
             let Some(part) = node_at(mint, id, path.as_slice()) else {
                 unreachable!()
@@ -194,23 +200,21 @@ fn switch_bodies(
     classes: &Classes,
     id: NodeId,
     path: &Path,
-    cases: &SendCases,
-    last: &SendLast,
+    cases: Boxed<SendCases>,
+    last: SendLast,
     plan: Plan,
-) -> Result<(SendCases, Option<SendOps>), NoMemory>
+) -> Result<(Boxed<SendCases>, SendLast), NoMemory>
     requires id { id < length mint.now }
     requires classes { AreClasses mint.now classes.now }
     requires taken { WhereApart (plan_seen path.now plan) (InType (arms_at path.now (type_at mint.now id))
-        (λ arms. CasesTaken (span_roles classes.now.enc) arms (cases_seen cases.now last.now))) }
+        (λ arms. CasesTaken (span_roles classes.now.enc) arms (cases_seen cases last))) }
     ensures { IfOk result (λ b. cases_seen b.0 b.1
-        ≡ kept (plan_seen path.now plan) (cases_seen cases.now last.now)
+        ≡ kept (plan_seen path.now plan) (cases_seen cases last)
         (cases_hoisted (span_roles classes.now.enc) (or_none (arms_at path.now (type_at mint.now id)))
-        (cases_seen cases.now last.now))) }
+        (cases_seen cases last))) }
 {
     match plan {
-        Plan::Small(_, _) | Plan::Loop(_) => {
-            Ok((copy_cases(alloc, cases)?, copy_last(alloc, last)?))
-        }
+        Plan::Small(_, _) | Plan::Loop(_) => Ok((cases, last)),
         Plan::Apart => {
             let Some(part) = node_at(mint, id, path.as_slice()) else {
                 unreachable!()
@@ -218,9 +222,9 @@ fn switch_bodies(
             let Some(Node::Choice(_, arms, other)) = mint.node(part) else {
                 unreachable!()
             };
-            let bodies = hoist_cases(alloc, mint, classes, part, arms, cases)?;
+            let bodies = hoist_cases(alloc, mint, classes, part, arms, cases.into_value())?;
             let rest = hoist_last(alloc, mint, classes, part, *other, last)?;
-            Ok((bodies, rest))
+            Ok((Boxed::new(alloc, bodies)?, rest))
         }
     }
 }
@@ -233,20 +237,20 @@ fn hoist_cases(
     classes: &Classes,
     id: NodeId,
     arms: &Arms,
-    cases: &SendCases,
+    cases: SendCases,
 ) -> Result<SendCases, NoMemory>
     requires id { id < length mint.now }
     requires classes { AreClasses mint.now classes.now }
     requires arms { ArmsBelow id arms.now }
-    requires taken { ArmsTaken classes.now.enc (unfolded mint.now) arms.now cases.now }
+    requires taken { ArmsTaken classes.now.enc (unfolded mint.now) arms.now cases }
     ensures { IfOk result
-        (λ bodies. AreHoisted classes.now.enc (unfolded mint.now) arms.now cases.now bodies) }
+        (λ bodies. AreHoisted classes.now.enc (unfolded mint.now) arms.now cases bodies) }
 {
     let arms = arms.as_slice();
-    let cases = cases.as_slice();
     let mut bodies = SendCases::new(alloc);
-    for i in 0..cases.len() {
-        bodies.push(hoist_case(alloc, mint, classes, id, &arms[i], &cases[i])?)?;
+    for case in cases.into_entries() {
+        let arm = &arms[bodies.len()];
+        bodies.push(hoist_case(alloc, mint, classes, id, arm, case)?)?;
     }
     Ok(bodies)
 }
@@ -259,16 +263,17 @@ fn hoist_case(
     classes: &Classes,
     id: NodeId,
     arm: &(i128, NodeId),
-    case: &(i128, SendOps),
+    case: (i128, SendOps),
 ) -> Result<(i128, SendOps), NoMemory>
     requires id { id < length mint.now }
     requires classes { AreClasses mint.now classes.now }
     requires arm { arm.now.1 < id }
     requires taken { IsTaken (span_roles classes.now.enc) (type_at mint.now arm.now.1)
-        (code_seen case.now.1) }
-    ensures { IfOk result (λ body. IsHoisted classes.now.enc (type_at mint.now arm.now.1) case.now body) }
+        (code_seen case.1) }
+    ensures { IfOk result (λ body. IsHoisted classes.now.enc (type_at mint.now arm.now.1) case body) }
 {
-    Ok((case.0, hoist_ops(alloc, mint, classes, arm.1, &case.1)?))
+    let (n, body) = case;
+    Ok((n, hoist_ops(alloc, mint, classes, arm.1, body)?))
 }
 
 /// The body of every other number.
@@ -279,20 +284,23 @@ fn hoist_last(
     classes: &Classes,
     id: NodeId,
     other: Option<NodeId>,
-    last: &SendLast,
-) -> Result<Option<SendOps>, NoMemory>
+    last: SendLast,
+) -> Result<SendLast, NoMemory>
     requires id { id < length mint.now }
     requires classes { AreClasses mint.now classes.now }
     requires other { IsBelow id other }
     requires taken { CasesTaken (span_roles classes.now.enc) (others_at (unfolded mint.now) other)
-        (cases_seen [] last.now) }
+        (cases_seen [] last) }
     ensures { IfOk result (λ rest. cases_seen [] rest
         ≡ cases_hoisted (span_roles classes.now.enc) (others_at (unfolded mint.now) other)
-        (cases_seen [] last.now)) }
+        (cases_seen [] last)) }
 {
     match last {
         Some(body) => match other {
-            Some(child) => Ok(Some(hoist_ops(alloc, mint, classes, child, body)?)),
+            Some(child) => {
+                let hoisted = hoist_ops(alloc, mint, classes, child, body.into_value())?;
+                Ok(Some(Boxed::new(alloc, hoisted)?))
+            }
             None => unreachable!(),
         },
         None => Ok(None),
@@ -303,28 +311,28 @@ fn hoist_last(
 /// is a lead of chunks, inlined code for the node, and at most one patch.
 pub fn hoist(
     alloc: Global,
-    code: &SendCode,
+    code: SendCode,
     mint: &Mint,
     id: NodeId,
     classes: &Classes,
 ) -> Result<SendCode, NoMemory>
     requires id { id < length mint.now }
     requires classes { AreClasses mint.now classes.now }
-    requires given { IsGiven (type_at mint.now id) code.now }
+    requires given { IsGiven (type_at mint.now id) code }
     // What it keeps.
-    ensures same { IfOk result (λ r. SendsTheSame code.now r) }
-    ensures adds { IfOk result (λ r. ChangesOnlyEnsures code.now r) }
+    ensures same { IfOk result (λ r. SendsTheSame code r) }
+    ensures adds { IfOk result (λ r. ChangesOnlyEnsures code r) }
     ensures no_row { IfOk result (λ r. HasNoRow r) }
     ensures subs { IfOk result (λ r. r.subs ≡ []) }
     // The room that it ensures.
-    ensures covered { IfOk result (λ r. IsCoveredFor (type_at mint.now id) code.now r) }
-    ensures sparing { IfOk result (λ r. IsSparing classes.now.enc (type_at mint.now id) code.now r) }
+    ensures covered { IfOk result (λ r. IsCoveredFor (type_at mint.now id) code r) }
+    ensures sparing { IfOk result (λ r. IsSparing classes.now.enc (type_at mint.now id) code r) }
     ensures big { IfOk result (λ r. EnsuresRows classes.now.enc (type_at mint.now id) r) }
     ensures rows { IfOk result (λ r. RowsAreBare (type_at mint.now id) (code_seen r.ops)) }
 {
     mint.types_are_sound();
     Ok(SendCode {
-        ops: hoist_ops(alloc, mint, classes, id, &code.ops)?,
+        ops: hoist_ops(alloc, mint, classes, id, code.ops)?,
         subs: SendSubs::new(alloc),
     })
 }

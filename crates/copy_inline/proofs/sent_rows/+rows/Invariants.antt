@@ -1,7 +1,10 @@
-use Rattle.std.proofs.Common.{◌≡◌, ◌+◌, ◌*◌}
-use Rattle.std.proofs.Math.ListN.{take}
+use Rattle.std.proofs.Common.{◌≡◌, ◌+◌, ◌*◌, length}
+use Rattle.std.proofs.Math.ListN.{take, drop}
+use Rattle.std.specs.Vec.Iter.{into_iter_items, into_iter_len}
 use Rattle.mint.specs.Types.{type_at, unfolded}
+use Rattle.cast_stub.specs.Append.{append}
 use Rattle.cast_stub.specs.Block.{code_seen}
+use Rattle.copy_inline.specs.Ready.{IsReady}
 use Rattle.copy_inline.specs.RowBodies.{AreRowed}
 use Rattle.copy_inline.specs.Rowed.{rowed}
 use Rattle.copy_inline.proofs.sent_rows.+rows.Given as goal
@@ -30,8 +33,23 @@ decreases-rows_case l = 8 * l.id + 2
 abbrev pub decreases-rows_last : goal.decreases-rows_last
 decreases-rows_last l = 8 * l.id + 3
 
+-- what is made, and what is left
 abbrev pub invariant-rows_ops-loop-op : goal.invariant-rows_ops-loop-op
-invariant-rows_ops-loop-op l = code_seen l.out ≡ rowed l.enc (type_at l.mint l.id) (code_seen (take l.op-index l.op-items))
+invariant-rows_ops-loop-op l = record {
+  next : (goal.iterator-rows_ops-loop-op).can_next l.op-iterator;
+  finite : (goal.iterator-rows_ops-loop-op).is_finite l.op-iterator;
+  long : into_iter_len l.op-iterator ≡ length (into_iter_items l.op-iterator);
+  ready : IsReady l.enc (type_at l.mint l.id) (code_seen (into_iter_items l.op-iterator));
+  made : append (code_seen l.out) (rowed l.enc (type_at l.mint l.id) (code_seen (into_iter_items l.op-iterator)))
+      ≡ rowed l.enc (type_at l.mint l.id) (code_seen l.fn.ops);
+}
 
-abbrev pub invariant-rows_cases-loop-i : goal.invariant-rows_cases-loop-i
-invariant-rows_cases-loop-i l = AreRowed l.enc (unfolded l.mint) (take l.i l.arms) (take l.i l.cases) l.bodies
+-- bodies for the first arms, and what is left
+abbrev pub invariant-rows_cases-loop-case : goal.invariant-rows_cases-loop-case
+invariant-rows_cases-loop-case l = record {
+  next : (goal.iterator-rows_cases-loop-case).can_next l.case-iterator;
+  finite : (goal.iterator-rows_cases-loop-case).is_finite l.case-iterator;
+  long : into_iter_len l.case-iterator ≡ length (into_iter_items l.case-iterator);
+  left : into_iter_items l.case-iterator ≡ drop (length l.bodies) l.fn.cases;
+  made : AreRowed l.enc (unfolded l.mint) (take (length l.bodies) l.arms) (take (length l.bodies) l.fn.cases) l.bodies;
+}
