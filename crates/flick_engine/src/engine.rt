@@ -1,6 +1,6 @@
 //! An engine.
 
-ghost use Rattle.std.specs.Prelude.{◌≡◌, ◌<◌, length, IfOk, Some, option_map, slice_get};
+ghost use Rattle.std.specs.Prelude.{◌≡◌, ◌<◌, length, true, IfOk, Some, option_map, slice_get};
 ghost use Rattle.stub_codes.specs.Receiving.{Receives};
 ghost use Rattle.stub_codes.specs.Sending.{Sends};
 ghost use Rattle.stub_codes.specs.Stubs.{IsCoded, reply_code_at};
@@ -47,6 +47,7 @@ impl Engine {
     pub fn compile(alloc: Global, bound: Bound) -> Result<Engine, NoMemory>
         ensures binding { IfOk result (λ e. e.binding ≡ bound) }
         ensures minor { IfOk result (λ e. e.minor ≡ 0) }
+        ensures answers { IfOk result (λ e. e.answers ≡ true) }
         ensures coded { IfOk result IsCoded }
     {
         Engine::compile_minor(alloc, bound, 0)
@@ -58,11 +59,28 @@ impl Engine {
         requires { IsMinorOver bound.back minor }
         ensures binding { IfOk result (λ e. e.binding ≡ bound) }
         ensures minor { IfOk result (λ e. e.minor ≡ minor) }
+        ensures answers { IfOk result (λ e. e.answers ≡ true) }
+        ensures coded { IfOk result IsCoded }
+    {
+        Engine::compile_with(alloc, bound, minor, true)
+    }
+
+    /// The same, with the codes of replies only where replies are sent.
+    pub fn compile_with(
+        alloc: Global,
+        bound: Bound,
+        minor: u8,
+        answers: bool,
+    ) -> Result<Engine, NoMemory>
+        requires { IsMinorOver bound.back minor }
+        ensures binding { IfOk result (λ e. e.binding ≡ bound) }
+        ensures minor { IfOk result (λ e. e.minor ≡ minor) }
+        ensures answers { IfOk result (λ e. e.answers ≡ answers) }
         ensures coded { IfOk result IsCoded }
     {
         let names = Names::of(alloc, &bound)?;
         Ok(Engine {
-            stubs: Codes::compile(alloc, bound, minor)?,
+            stubs: Codes::compile(alloc, bound, minor, answers)?,
             names,
         })
     }
@@ -105,6 +123,7 @@ impl Engine {
 
     /// The code that sends an operation's replies with an arm in a version: arm 0 is the answer, k the k-th exception.
     pub fn reply_code(&self, op: u32, arm: u32, minor: u8) -> &SendCode
+        requires answers { self.now.answers ≡ true }
         requires op { op < length self.now.binding.ops }
         requires arm { HasArm self.now.binding op arm }
         requires minor { IsMinorOver self.now.binding.back minor }

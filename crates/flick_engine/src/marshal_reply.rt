@@ -1,6 +1,6 @@
 //! Replies as messages.
 
-ghost use Rattle.std.specs.Prelude.{◌≡◌, ◌<◌, [], false, pos, length, OnErr, OnOk, Err, IfNone, IfSome};
+ghost use Rattle.std.specs.Prelude.{◌≡◌, ◌<◌, [], false, true, pos, length, OnErr, OnOk, Err, IfNone, IfSome};
 ghost use Rattle.kit_base.specs.Limits.{longest_message};
 ghost use Rattle.mint.specs.declared.kind.Kind.TheVariants as kind;
 ghost use Rattle.mint.specs.Kinds.{in_range};
@@ -30,6 +30,7 @@ impl Engine {
         buf: &mut SendBuf,
     ) -> Result<(), MarshalErr>
         // What is sent.
+        requires answers { self.now.answers ≡ true }
         requires op { op < length self.now.binding.ops }
         requires typed { IsWellTyped (reply_type self.now.binding op) (seen value.now) }
         // What `Ok` holds.
@@ -63,6 +64,7 @@ impl Engine {
         buf: &mut SendBuf,
     ) -> Result<(), MarshalErr>
         // What is sent.
+        requires answers { self.now.answers ≡ true }
         requires op { op < length self.now.binding.ops }
         requires minor { IsMinorOver self.now.binding.back minor }
         requires typed { IsWellTyped (reply_type self.now.binding op) (seen value.now) }

@@ -48,6 +48,7 @@ impl Engine {
         buf: &mut SendBuf,
     ) -> Result<Served, NoMemory>
         requires made_for { S.binding skeleton.now ≡ self.now.binding }
+        requires answers { self.now.answers ≡ true }
         requires start { view.old.pos ≡ 0 }
         // What is answered.
         ensures serves { IfOk result (λ s.
@@ -86,6 +87,7 @@ impl Engine {
     ) -> Result<Served, NoMemory>
         // Who answers, what is read, and where the answer goes.
         requires made_for { S.binding skeleton.now ≡ self.now.binding }
+        requires answers { self.now.answers ≡ true }
         requires start { view.old.pos ≡ 0 }
         requires message { view.old.octets ≡ message.now }
         requires empty { buf.old.done ≡ [] }
@@ -124,6 +126,7 @@ impl Engine {
     ) -> Result<Served, NoMemory>
         // Who answers, and what is called.
         requires made_for { S.binding skeleton.now ≡ self.now.binding }
+        requires answers { self.now.answers ≡ true }
         requires short { IsShort message.now }
         requires begins { Begins self.now.binding message.now called.now }
         requires below { IsBelow (length self.now.binding.ops) called.now.naming }
@@ -164,6 +167,7 @@ impl Engine {
     ) -> Result<(), NoMemory>
         // Who answers, and what is called.
         requires made_for { S.binding skeleton.now ≡ self.now.binding }
+        requires answers { self.now.answers ≡ true }
         requires short { IsShort message.now }
         requires begins { Begins self.now.binding message.now called.now }
         requires below { IsBelow (length self.now.binding.ops) called.now.naming }
@@ -210,6 +214,7 @@ impl Engine {
     ) -> Result<(), NoMemory>
         // Who answers, and what is asked.
         requires made_for { S.binding skeleton.now ≡ self.now.binding }
+        requires answers { self.now.answers ≡ true }
         requires begins { Begins self.now.binding message.now called.now }
         requires op { request.now.op < length self.now.binding.ops }
         requires typed { IsWellTyped (request_type self.now.binding request.now.op) (seen request.now.value) }

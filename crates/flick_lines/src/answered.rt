@@ -1,6 +1,6 @@
 //! The answer to a line.
 
-ghost use Rattle.std.specs.Prelude.{IfOk, OnOk};
+ghost use Rattle.std.specs.Prelude.{◌≡◌, true, IfOk, OnOk};
 ghost use Rattle.raw_buf.specs.Buf.{NoneFell};
 ghost use Rattle.flick_lines.specs.Sent.{SendsTo};
 ghost use Rattle.flick_lines.specs.Verbs.{IsAnswerTo};
@@ -27,6 +27,7 @@ pub fn answer(
     scratch: &mut Scratch,
     buf: &mut SendBuf,
 ) -> Result<Octets, NoMemory>
+    requires answers { (verb ≡ Verb.Reply) → engine.now.answers ≡ true }
     ensures value { IfOk result (λ o. IsAnswerTo verb engine.now text.now o) }
     ensures spent { NoneFell buf.old.spent buf.new.spent }
     ensures sends { OnOk result (SendsTo verb engine.now text.now buf.old buf.new) }

@@ -1,6 +1,6 @@
 //! The answers of `reply`.
 
-ghost use Rattle.std.specs.Prelude.{◌≡◌, ◌<◌, length, IfOk, IfSome, OnOk, slice_get};
+ghost use Rattle.std.specs.Prelude.{◌≡◌, ◌<◌, length, true, IfOk, IfSome, OnOk, slice_get};
 ghost use Rattle.serde_json.specs.View.{view};
 ghost use Rattle.mint.specs.Typed.{IsWellTyped};
 ghost use Rattle.mint.specs.Types.{type_at};
@@ -28,6 +28,7 @@ pub fn reply(
     line: &[u8],
     buf: &mut SendBuf,
 ) -> Result<Octets, NoMemory>
+    requires answers { engine.now.answers ≡ true }
     ensures value { IfOk result (λ o. IsReplied engine.now.binding engine.now.minor line.now o) }
     ensures spent { NoneFell buf.old.spent buf.new.spent }
     ensures paid { OnOk result (IsPaid verbs.Reply engine.now line.now buf.old buf.new) }
@@ -45,6 +46,7 @@ fn of_tree(
     json: &Json,
     buf: &mut SendBuf,
 ) -> Result<Octets, NoMemory>
+    requires answers { engine.now.answers ≡ true }
     ensures value { IfOk result (λ o. IsOfRecord (reply_digits engine.now.binding engine.now.minor)
         (reply_of engine.now.binding (view json.now)) o) }
     ensures spent { NoneFell buf.old.spent buf.new.spent }
@@ -64,6 +66,7 @@ fn digits_of(
     record: &RequestRec,
     buf: &mut SendBuf,
 ) -> Result<Octets, NoMemory>
+    requires answers { engine.now.answers ≡ true }
     requires op { record.now.op < length engine.now.binding.ops }
     requires typed { IfSome (slice_get engine.now.binding.ops record.now.op)
         (λ o. IsWellTyped (type_at engine.now.binding.nodes o.reply) (seen record.now.value)) }

@@ -1,5 +1,5 @@
 -- The answers of `serve`: the replies to messages, by the replies that a file gives.
-use Rattle.std.specs.Prelude.{◌≡◌, ℕ, List, Option, Some, None, Result, Ok, Err, codes}
+use Rattle.std.specs.Prelude.{◌≡◌, true, ℕ, List, Option, Some, None, Result, Ok, Err, codes}
 use Rattle.hex.specs.Hex.{decode_of, encode_lower}
 use Rattle.hex.specs.declared.error.FromHexError.{FromHexError}
 use Rattle.mint.specs.Blank.{blank}
@@ -48,6 +48,7 @@ pub record Serving : Type 0 where
 pub record IsServing (s : Serving) (places : Places) : Type 0 where
   pub given : FileGives s.coded.binding s.text (Ok (given_in places))
   pub kept : IsKept (record { binding = s.coded.binding; replies = places })
+  pub answers : s.coded.answers ≡ true
 
 -- a server, or a wrong line, is what a file gives: replies, or the number of that line
 abbrev pub AgreesWith : Result Serving WrongReplies → Result Given ℕ → Type 0

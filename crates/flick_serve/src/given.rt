@@ -34,6 +34,7 @@ pub(crate) fn replies_in(
     engine: &Engine,
     text: &[u8],
 ) -> Result<Result<Replies, WrongLine>, NoMemory>
+    requires answers { engine.now.answers ≡ true }
     ensures gives { IfOk result (λ r. FileGives engine.now.binding text.now (given_by r)) }
     ensures kept { IfOk result (λ r. IfOk r
         (λ places. IsKept (record { binding = engine.now.binding; replies = places }))) }
@@ -54,6 +55,7 @@ fn read_lines(
     replies: &mut Replies,
     buf: &mut SendBuf,
 ) -> Result<Option<WrongLine>, NoMemory>
+    requires answers { engine.now.answers ≡ true }
     requires kept { IsKept (record { binding = engine.now.binding; replies = replies.old }) }
     ensures gives { IfOk result (λ wrong. Give engine.now.binding 1 (given_in replies.old)
         (lines_of text.now) (given_by (unless_wrong wrong replies.new))) }
@@ -80,6 +82,7 @@ fn take_line(
     replies: &mut Replies,
     buf: &mut SendBuf,
 ) -> Result<bool, NoMemory>
+    requires answers { engine.now.answers ≡ true }
     requires kept { IsKept (record { binding = engine.now.binding; replies = replies.old }) }
     ensures adds { IfOk result (λ taken. MatchBool taken
         (Adds engine.now.binding (given_in replies.old) line.now (given_in replies.new))
@@ -115,6 +118,7 @@ fn record_on(
     line: &[u8],
     buf: &mut SendBuf,
 ) -> Result<Option<RequestRec>, NoMemory>
+    requires answers { engine.now.answers ≡ true }
     ensures found { IfOk result (Finds (IsGiven engine.now.binding line.now)) }
     ensures fits { IfOk result (λ o. IfSome o (IsFitting engine.now.binding)) }
 {
@@ -131,6 +135,7 @@ fn record_in(
     json: &Json,
     buf: &mut SendBuf,
 ) -> Result<Option<RequestRec>, NoMemory>
+    requires answers { engine.now.answers ≡ true }
     ensures found { IfOk result
         (Finds (IsReplyOf engine.now.binding (given_of engine.now.binding (view json.now)))) }
     ensures fits { IfOk result (λ o. IfSome o (IsFitting engine.now.binding)) }
@@ -160,6 +165,7 @@ fn unless_long(
     reply: RequestRec,
     buf: &mut SendBuf,
 ) -> Result<Option<RequestRec>, NoMemory>
+    requires answers { engine.now.answers ≡ true }
     requires op { reply.op < length engine.now.binding.ops }
     requires typed { IfSome (slice_get engine.now.binding.ops reply.op)
         (λ o. IsWellTyped (type_at engine.now.binding.nodes o.reply) (seen reply.value)) }

@@ -1,6 +1,6 @@
 //! A server.
 
-ghost use Rattle.std.specs.Prelude.{◌≡◌, ℕ, List, Result, IfErr, IfOk, OnOk, Ok};
+ghost use Rattle.std.specs.Prelude.{◌≡◌, ℕ, true, List, Result, IfErr, IfOk, OnOk, Ok};
 ghost use Rattle.hex.specs.Hex.{decode_of};
 ghost use Rattle.raw_buf.specs.Buf.{NoneFell};
 ghost use Rattle.skeleton.specs.TableSkeleton.{answer_at};
@@ -59,6 +59,7 @@ impl Server {
         engine: Engine,
         text: Octets,
     ) -> Result<Result<Server, WrongReplies>, NoMemory>
+        requires answers { engine.answers ≡ true }
         ensures is { IfOk result (λ r. IfOk r (λ s. s ≡ record { coded = engine; text = text })) }
         ensures engine { IfOk result (λ r. IfErr r (λ wrong. wrong.engine ≡ engine)) }
         ensures gives { IfOk result (λ r.
@@ -116,7 +117,8 @@ fn of_line(
     line: &[u8],
     buf: &mut SendBuf,
 ) -> Result<Octets, NoMemory>
-    requires { kept.now.binding ≡ engine.now.binding }
+    requires made_for { kept.now.binding ≡ engine.now.binding }
+    requires answers { engine.now.answers ≡ true }
     ensures value { IfOk result (λ o.
         IsOfMessage engine.now.binding engine.now.minor (answer_at kept.now) (decode_of line.now) o) }
     ensures paid { OnOk result
@@ -138,7 +140,8 @@ fn of_message(
     message: &[u8],
     buf: &mut SendBuf,
 ) -> Result<Octets, NoMemory>
-    requires { kept.now.binding ≡ engine.now.binding }
+    requires made_for { kept.now.binding ≡ engine.now.binding }
+    requires answers { engine.now.answers ≡ true }
     ensures value { IfOk result (λ o.
         IsOfMessage engine.now.binding engine.now.minor (answer_at kept.now) (Ok message.now) o) }
     ensures paid { OnOk result

@@ -105,7 +105,7 @@ module _ (job : Job) (f : Answering) (coded : IsCoded (engine_in job)) (left lef
 -- what is prepared to answer items is the task to do so after its text
 same_task : (p : Prepared) (job : Job) → p.feed ≡ Some job → IsReady p → task_in p [] ≡ answering_task p.text job
 same_task p job is ready =
-    let ends : p.status ≡ s.Done = subst (λ (j : Option Job). EndsAs j p.status) is ready in
+    let ends : p.status ≡ s.Done = subst (λ (j : Option Job). EndsAs j p.status) is ready.0 in
     ap (λ (x : Status). task_of x p.feed p.idle) ends ∙ ap (λ (j : Option Job). task_of s.Done j p.idle) is where
       task_of : Status → Option Job → Option Coded → Task
       task_of status feed idle = record { text = p.text; status = status; before = []; feed = feed; engine = engine_with feed idle }
@@ -159,7 +159,7 @@ text-alone p f left faults held held' buf none ready coded text =
       of feed = record { text = p.text; status = p.status; before = []; feed = feed; engine = engine_of p }
 
       ends : EndsAs None p.status
-      ends = subst (λ (j : Option Job). EndsAs j p.status) none ready
+      ends = subst (λ (j : Option Job). EndsAs j p.status) none ready.0
 
       wrote : Appends held held' (p.text ++ [])
       wrote = subst (λ (o : List ℕ). Appends held held' o) (sym (append-nil p.text)) text

@@ -48,11 +48,13 @@ pub mod Reading
 pub mod Tasking
 -- * All words and files have a task
 pub mod Tasks
+-- * Where replies are sent the engine has the codes of replies
+pub mod Coding
 -- * The engine that a command leaves of its file
 pub mod Leaving
 -- * What an action comes to over what was made of a file is what its command comes to
 pub mod OverFiles
--- * The numbers of words, read digit by digit
+-- * The numbers of words
 pub mod Digits
 -- * A server answers lines by the replies that the text of a file gives, or a wrong line of it is said
 pub mod Servers

@@ -19,26 +19,26 @@ use Rattle.flick_top.specs.declared.report.Report.{Report}
 use Rattle.flick_top.specs.Dispatch.{Files, IsMadeOf, BridgesFile, ServesFile, ChecksFile, Acts, TaskOf}
 use Rattle.flick_top.specs.Command.{word_at}
 use Rattle.flick_top.specs.File.{Reported, codes_in}
-use Rattle.flick_top.specs.Made.{HasCodes, codes_of}
+use Rattle.flick_top.specs.Made.{codes_of}
 use Rattle.flick_top.specs.Task.{Task, engine_of, report_task, task_in, writing_task}
 use Rattle.flick_top.specs.Turn.{AreFirst, ActsIn, ComesIn}
 use Rattle.flick_top.proofs.Tasking.{is-in}
 
 comes_over : (command : Command) (a : Action) (n : Named) (words : List (List ℕ)) (files : Files) (reported : Reported) (e : Coded)
-    (p : Prepared) (old new : Buf) → command ≡ Over a n → reported ≡ Ok e → HasCodes (Ok e) p
+    (p : Prepared) (old new : Buf) → command ≡ Over a n → reported ≡ Ok e → engine_of p ≡ Some e
     → IsMadeOf (codes_in reported) n (files (word_at words n.file)) reported → ActsIn a e words files p old new
     → ComesIn (Some command) words files p old new
 comes_over command a n words files reported e p old new is ok has made (before, acts, spent, first) =
     let bound : IsMadeOf e.stubs n (files (word_at words n.file)) (Ok e) =
     subst (λ (r : Reported). IsMadeOf (codes_in r) n (files (word_at words n.file)) r) ok made in
-    subst (λ (k : Command). ComesIn (Some k) words files p old new) (sym is)
-    (before, (Ok e, subst (λ (s : List Stub). IsMadeOf s n (files (word_at words n.file)) (Ok e)) (sym has) bound, acts), spent, first)
+    let made_so = subst (λ (s : List Stub). IsMadeOf s n (files (word_at words n.file)) (Ok e)) (sym (ap codes_of has)) bound in
+    subst (λ (k : Command). ComesIn (Some k) words files p old new) (sym is) (before, (Ok e, made_so, acts), spent, first)
 
 -- the same of what an action answered
 pub acted-comes : {E : Type 0} (x : Result Prepared E) (command : Command) (a : Action) (n : Named) (words : List (List ℕ))
     (reported : Reported) (e : Coded) (told after : Option Files) (old new : Buf) → command ≡ Over a n → reported ≡ Ok e → after ≡ told
     → ((files : Files) → told ≡ Some files → IsMadeOf (codes_in reported) n (files (word_at words n.file)) reported)
-    → IfOk x (λ p. HasCodes (Ok e) p)
+    → IfOk x (λ p. engine_of p ≡ Some e)
     → IfOk x (λ p. (files : Files) → after ≡ Some files → ActsIn a e words files p old new)
     → IfOk x (λ p. (files : Files) → told ≡ Some files → ComesIn (Some command) words files p old new)
 acted-comes (Ok p) command a n words reported e told after old new is ok same made has acts = λ files known.

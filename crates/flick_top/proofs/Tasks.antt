@@ -37,7 +37,7 @@ bind_has : (codes : List Stub) (u : PlainUnit) (w : Wire) (e : Option BindErr) â
 bind_has codes u w (Some e) sound is = (Err (reports.Bind e), refl)
 bind_has codes u w None sound is =
     let (b, stands, unit, of, nodes) = units_bound u (back_in w) sound is in (
-      Ok (record { binding = b; minor = minor_in w; stubs = codes }),
+      Ok (record { binding = b; minor = minor_in w; answers = true; stubs = codes }),
       ((record { stands = stands; unit = unit; back = of; nodes = nodes }, refl), refl),
     )
 
@@ -52,7 +52,7 @@ bind_second : (u : PlainUnit) (w : Wire) (e : Option BindErr) â†’ IsSoundPlain u
 bind_second u w (Some e) sound is = (Err (reports.Bind e), refl)
 bind_second u w None sound is =
     let (b, stands, unit, of, nodes) = units_bound u (back_in w) sound is in (
-      Ok (record { binding = b; minor = minor_in w; stubs = [] }),
+      Ok (record { binding = b; minor = minor_in w; answers = false; stubs = [] }),
       ((record { stands = stands; unit = unit; back = of; nodes = nodes }, refl), refl),
     )
 

@@ -1,5 +1,5 @@
 -- The command that the words name.
-use Rattle.std.specs.Prelude.{ℕ, List, [], ◌∷◌, if◌then◌else◌, Option, Some, None, unwrap_or, slice_get, codes}
+use Rattle.std.specs.Prelude.{◌≡◌, ℕ, Bool, true, false, List, [], ◌∷◌, if◌then◌else◌, Option, Some, None, unwrap_or, slice_get, codes}
 use Rattle.std.specs.Str.{bytes_eq}
 use Rattle.idl_lex.specs.declared.kinds.Front.{Front}
 use Rattle.flick_engine.specs.declared.wire.Wire.{Wire}
@@ -109,6 +109,17 @@ abbrev pub AnswersItems : Option Command → Type 0
 AnswersItems (Some (Over action n)) = IsOverItems action
 AnswersItems (Some (Bridge n to)) = Unit {0}
 AnswersItems _ = ⊥
+
+-- an action sends replies
+abbrev pub sends_replies : Action → Bool
+sends_replies (Answer Reply) = true
+sends_replies (Serve replies) = true
+sends_replies _ = false
+
+-- a command that sends them
+abbrev pub SendsReplies : Option Command → Type 0
+SendsReplies (Some (Over action n)) = sends_replies action ≡ true
+SendsReplies _ = ⊥
 
 -- an action that says what is to be said of stubs
 abbrev pub IsOverStubs : Action → Type 0

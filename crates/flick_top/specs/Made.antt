@@ -9,20 +9,14 @@ use Rattle.stub_codes.specs.Stubs.{Coded, IsCoded}
 use Rattle.flick_top.specs.declared.command.Command.{Command}
 use Rattle.flick_top.specs.declared.command.Command.TheVariants.{Over, Bridge}
 use Rattle.flick_top.specs.declared.command.Named.{Named}
-use Rattle.flick_top.specs.declared.prepared.Prepared.{Prepared}
 use Rattle.flick_top.specs.Dispatch.{Files}
 use Rattle.flick_top.specs.Command.{word_at}
-use Rattle.flick_top.specs.File.{Reported, FileSays, IsOf, codes_in}
-use Rattle.flick_top.specs.Task.{engine_of}
+use Rattle.flick_top.specs.File.{FileSays, IsOf}
 
 -- the codes of the operations of an engine, if there is one
 abbrev pub codes_of : Option Coded → List Stub
 codes_of None = []
 codes_of (Some e) = e.stubs
-
--- the engine of what is prepared has the codes of what was made
-abbrev pub HasCodes : Reported → Prepared → Type 0
-HasCodes reported p = codes_of (engine_of p) ≡ codes_in reported
 
 -- an engine of a unit whose messages have a format, each of whose codes is that of its operation
 abbrev pub IsEngineOver : PlainUnit → Wire → Coded → Type 0

@@ -1,5 +1,5 @@
 -- The promise of `flick`: what was done, and what its status says of what it wrote, took, left, sent and met outside.
-use Rattle.std.specs.Prelude.{◌≡◌, ◌≢◌, ◌⊎◌, ◌↔◌, ℕ, ◌<◌, ◌≤◌, List, [], ◌++◌, length, take, Option, None, Some, IfSome}
+use Rattle.std.specs.Prelude.{◌≡◌, ◌≢◌, ◌⊎◌, ◌↔◌, ℕ, ◌<◌, ◌≤◌, true, List, [], ◌++◌, length, take, Option, None, Some, IfSome}
 use Rattle.std.specs.Io.KnownBytes.{Appends, Consumes, IsAtEnd}
 use Rattle.kit_base.specs.Limits.{most_input}
 use Rattle.raw_buf.specs.Buf.{Buf}
@@ -8,7 +8,7 @@ use Rattle.flick_check.specs.Checked.{YesIsSent}
 use Rattle.flick_lines.specs.Sent.{IsSpentBy}
 use Rattle.flick_top.specs.Answer.{Answering}
 use Rattle.flick_top.specs.Dispatch.{Files, Does}
-use Rattle.flick_top.specs.Command.{command_of, AnswersItems, ChecksStubs, ReadsFiles}
+use Rattle.flick_top.specs.Command.{command_of, AnswersItems, ChecksStubs, ReadsFiles, SendsReplies}
 use Rattle.flick_top.specs.Made.{codes_of}
 use Rattle.flick_top.specs.Outside.{Input, Held, Fails}
 use Rattle.flick_top.specs.Status.{refused, usage, file_refused, source_failed, sink_failed, shelf_failed, out_of_memory, too_much}
@@ -49,6 +49,10 @@ Works made words files left left' before now held held' old new status = Fails l
 -- ensured space
 abbrev pub YesIsKept : Option Coded → List (List ℕ) → Type 0
 YesIsKept made words = ChecksStubs (command_of words) → IfSome made YesIsSent
+
+-- where replies are sent, the engine that is left has the codes of replies
+abbrev pub RepliesAreCoded : Option Coded → List (List ℕ) → Type 0
+RepliesAreCoded made words = SendsReplies (command_of words) → IfSome made (λ e. e.answers ≡ true)
 
 -- the words name no command: exactly then this status comes
 abbrev pub IsUsage : List (List ℕ) → ℕ → Type 0

@@ -4,10 +4,12 @@ use Rattle.kit_base.specs.declared.lines.LineErr.{LineErr}
 use Rattle.kit_base.specs.declared.lines.LineErr.TheVariants as errors
 use Rattle.raw_buf.specs.Buf.{Buf}
 use Rattle.stub_codes.specs.Stubs.{Coded}
+use Rattle.flick_lines.specs.declared.verb.Verb.TheVariants.{Reply}
 use Rattle.flick_lines.specs.Sent.{Sending, IsSpentBy}
 use Rattle.flick_top.specs.declared.command.Action.{Action}
 use Rattle.flick_top.specs.declared.command.Command.{Command}
 use Rattle.flick_top.specs.declared.job.Job.{Job}
+use Rattle.flick_top.specs.declared.job.Job.TheVariants.{Over}
 use Rattle.flick_top.specs.declared.prepared.Prepared.{Prepared}
 use Rattle.flick_top.specs.declared.status.Status.{Status}
 use Rattle.flick_top.specs.declared.status.Status.TheVariants.{Done, Refused, File, Source, Memory, Length}
@@ -21,9 +23,19 @@ abbrev pub EndsAs : Option Job → Status → Type 0
 EndsAs None status = (status ≡ Done) ⊎ ((status ≡ Refused) ⊎ (status ≡ File))
 EndsAs (Some job) status = status ≡ Done
 
--- what is prepared ends so
+-- a job of `reply` has an engine with the codes of replies
+abbrev pub CanReply : Job → Type 0
+CanReply (Over Reply e) = e.answers ≡ true
+CanReply _ = Unit {0}
+
+-- the same of what answers items, where they are answered
+abbrev pub FeedCanReply : Option Job → Type 0
+FeedCanReply None = Unit {0}
+FeedCanReply (Some job) = CanReply job
+
+-- what is prepared ends so, and has the codes that it needs
 abbrev pub IsReady : Prepared → Type 0
-IsReady p = EndsAs p.feed p.status
+IsReady p = EndsAs p.feed p.status × FeedCanReply p.feed
 
 -- nothing was sent before items are answered
 abbrev pub AreFirst : Option Job → List Sending → Type 0

@@ -3,6 +3,7 @@
 ghost use Rattle.std.specs.Prelude.{◌≡◌, IfOk};
 ghost use Rattle.raw_buf.specs.Buf.{NoneFell};
 ghost use Rattle.flick_top.specs.Answer.{frame_name, frame_refusal, AnswersIn, IsPartLine};
+ghost use Rattle.flick_top.specs.Turn.{CanReply};
 ghost use Rattle.flick_top.specs.declared.items.Item.TheVariants as items;
 
 use crate::answered::{Answered, as_answer};
@@ -24,6 +25,7 @@ pub fn answer_to(
     scratch: &mut Scratch,
     buf: &mut SendBuf,
 ) -> Result<Answered, NoMemory>
+    requires replies { CanReply job.now }
     ensures answers { IfOk result (λ a. AnswersIn job.now item.now a.octets a.refused buf.old buf.new) }
     ensures spent { NoneFell buf.old.spent buf.new.spent }
 {
@@ -44,6 +46,7 @@ fn line_answer(
     scratch: &mut Scratch,
     buf: &mut SendBuf,
 ) -> Result<Answered, NoMemory>
+    requires replies { CanReply job.now }
     ensures answers { IfOk result
         (λ a. AnswersIn job.now (items.Line line.now) a.octets a.refused buf.old buf.new) }
     ensures spent { NoneFell buf.old.spent buf.new.spent }

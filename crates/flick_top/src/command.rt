@@ -1,7 +1,7 @@
 //! The command that the words name.
 
 ghost use Rattle.std.specs.Prelude.{◌≡◌, ◌≤◌, IfSome};
-ghost use Rattle.flick_top.specs.Command.{bridge_between, bridging, command_of, either_command, option_of, last_action, second_file, making, action_of, showing, over_file, word_at};
+ghost use Rattle.flick_top.specs.Command.{bridge_between, bridging, command_of, either_command, option_of, last_action, second_file, making, action_of, sends_replies, showing, over_file, word_at};
 ghost use Rattle.flick_top.specs.Fronts as fronts;
 ghost use Rattle.flick_engine.specs.Backs as backs;
 
@@ -247,6 +247,21 @@ fn last_action(word: &[u8]) -> Option<Action>
         return Some(Action::Stubs);
     }
     None
+}
+
+/// Whether an action sends replies.
+pub fn sends_replies(action: Action) -> bool
+    ensures { result ≡ sends_replies action }
+{
+    match action {
+        Action::Answer(Verb::Reply) | Action::Serve(_) => true,
+        Action::Answer(Verb::Marshal | Verb::Unmarshal | Verb::Unreply | Verb::Count)
+        | Action::Check(_)
+        | Action::Pipe
+        | Action::Unpipe
+        | Action::Stubs
+        | Action::Make(_, _) => false,
+    }
 }
 
 /// The word at a place.

@@ -1,16 +1,16 @@
 //! What a command comes to, once its words and its files are read.
 
-ghost use Rattle.std.specs.Prelude.{◌≡◌, ◌≢◌, ◌≤◌, [], Ok, Some, IfOk, IfErr, IfSome};
+ghost use Rattle.std.specs.Prelude.{◌≡◌, ◌≢◌, ◌≤◌, [], true, Some, IfOk, IfErr, IfSome};
 ghost use Rattle.kit_base.specs.Causes.{Rose};
 ghost use Rattle.raw_buf.specs.Buf.{NoneFell};
 ghost use Rattle.flick_top.specs.Dispatch.{Files, BridgesFile, ChecksFile, ServesFile, ServesText, showing_task, text_before};
-ghost use Rattle.flick_top.specs.Command.{AnswersItems, IsOverItems, ReadsFiles};
+ghost use Rattle.flick_top.specs.Command.{AnswersItems, IsOverItems, ReadsFiles, SendsReplies, sends_replies};
 ghost use Rattle.flick_top.specs.File.{plainly};
-ghost use Rattle.flick_top.specs.Made.{HasCodes, codes_of};
+ghost use Rattle.flick_top.specs.Made.{codes_of};
 ghost use Rattle.flick_top.specs.Task.{answering_task, engine_of, task_in};
 ghost use Rattle.flick_top.specs.Turn.{ActsIn, ComesIn, IsReady};
 
-use crate::command::{Action, Command, Named, word_at};
+use crate::command::{Action, Command, Named, sends_replies, word_at};
 use crate::file::{NoBridge, TaskErr, bridge_at, engine_at, unit_at};
 use crate::job::Job;
 use crate::prepared::Prepared;
@@ -42,6 +42,8 @@ pub fn prepare<F: Shelf>(
         → ComesIn (Some command) words.now files p buf.old buf.new) }
     ensures ready { IfOk result IsReady }
     ensures items { IfOk result (λ p. IfSome p.feed (λ job. AnswersItems (Some command))) }
+    ensures replies { IfOk result
+        (λ p. SendsReplies (Some command) → IfSome (engine_of p) (λ e. e.answers ≡ true)) }
     ensures spent { NoneFell buf.old.spent buf.new.spent }
     // Whether the shelf failed.
     ensures files { F.files shelf.new ≡ F.files shelf.old }
@@ -58,7 +60,8 @@ pub fn prepare<F: Shelf>(
             Ok(shown(alloc, read)?)
         }
         Command::Over(action, named) => {
-            match engine_at(alloc, &named, word_at(words, named.file), shelf)? {
+            let answers = sends_replies(action);
+            match engine_at(alloc, &named, answers, word_at(words, named.file), shelf)? {
                 Ok(engine) => run_action(alloc, action, engine, words, shelf, buf),
                 Err(report) => Ok(Prepared::of_report(alloc, report, None)?),
             }
@@ -117,10 +120,11 @@ fn run_action<F: Shelf>(
     shelf: &mut F,
     buf: &mut SendBuf,
 ) -> Result<Prepared, TaskErr>
+    requires answers { sends_replies action ≡ true → engine.answers ≡ true }
     // What it comes to, and what becomes of the buffer.
     ensures acts { IfOk result (λ p. (files : Files) → F.files shelf.old ≡ Some files
         → ActsIn action engine words.now files p buf.old buf.new) }
-    ensures codes { IfOk result (λ p. HasCodes (Ok engine) p) }
+    ensures engine { IfOk result (λ p. engine_of p ≡ Some engine) }
     ensures ready { IfOk result IsReady }
     ensures items { IfOk result (λ p. IfSome p.feed (λ job. IsOverItems action)) }
     ensures spent { NoneFell buf.old.spent buf.new.spent }
@@ -155,10 +159,11 @@ fn serve_file<F: Shelf>(
     path: &[u8],
     shelf: &mut F,
 ) -> Result<Prepared, TaskErr>
+    requires answers { engine.answers ≡ true }
     // What it comes to.
     ensures serves { IfOk result (λ p. (files : Files) → F.files shelf.old ≡ Some files
         → ServesFile engine (files path.now) (task_in p [])) }
-    ensures codes { IfOk result (λ p. HasCodes (Ok engine) p) }
+    ensures engine { IfOk result (λ p. engine_of p ≡ Some engine) }
     ensures ready { IfOk result IsReady }
     // Whether the shelf failed.
     ensures files { F.files shelf.new ≡ F.files shelf.old }
@@ -176,8 +181,9 @@ fn serve_file<F: Shelf>(
 
 /// To serve by the replies that a text gives, unless it is too large.
 fn serve_text(alloc: Global, engine: Engine, text: Octets) -> Result<Prepared, NoMemory>
+    requires answers { engine.answers ≡ true }
     ensures serves { IfOk result (λ p. ServesFile engine (Some text) (task_in p [])) }
-    ensures codes { IfOk result (λ p. HasCodes (Ok engine) p) }
+    ensures engine { IfOk result (λ p. engine_of p ≡ Some engine) }
     ensures ready { IfOk result IsReady }
 {
     if text.len() > LONGEST_REPLIES as usize {
@@ -188,8 +194,9 @@ fn serve_text(alloc: Global, engine: Engine, text: Octets) -> Result<Prepared, N
 
 /// To serve by the replies that a text gives, or to say which of its lines is wrong.
 fn server_from(alloc: Global, engine: Engine, text: Octets) -> Result<Prepared, NoMemory>
+    requires answers { engine.answers ≡ true }
     ensures serves { IfOk result (λ p. ServesText engine text (task_in p [])) }
-    ensures codes { IfOk result (λ p. HasCodes (Ok engine) p) }
+    ensures engine { IfOk result (λ p. engine_of p ≡ Some engine) }
     ensures ready { IfOk result IsReady }
 {
     match Server::new(alloc, engine, text)? {
@@ -212,7 +219,7 @@ fn check_file<F: Shelf>(
     // What it comes to.
     ensures checks { IfOk result (λ p. (files : Files) → F.files shelf.old ≡ Some files
         → ChecksFile engine (files path.now) (task_in p [])) }
-    ensures codes { IfOk result (λ p. HasCodes (Ok engine) p) }
+    ensures engine { IfOk result (λ p. engine_of p ≡ Some engine) }
     ensures ready { IfOk result IsReady }
     ensures items { IfOk result (λ p. p.feed ≡ None) }
     // Whether the shelf failed.
@@ -232,7 +239,7 @@ fn check_file<F: Shelf>(
 /// To write the answers to the stubs of a text, unless it is too large.
 fn check_text(alloc: Global, engine: Engine, text: &[u8]) -> Result<Prepared, NoMemory>
     ensures checks { IfOk result (λ p. ChecksFile engine (Some text.now) (task_in p [])) }
-    ensures codes { IfOk result (λ p. HasCodes (Ok engine) p) }
+    ensures engine { IfOk result (λ p. engine_of p ≡ Some engine) }
     ensures ready { IfOk result IsReady }
     ensures items { IfOk result (λ p. p.feed ≡ None) }
 {
@@ -245,6 +252,7 @@ fn check_text(alloc: Global, engine: Engine, text: &[u8]) -> Result<Prepared, No
 
 /// To answer the items of the input by a verb.
 fn answering(alloc: Global, verb: Verb, engine: Engine) -> Result<Prepared, NoMemory>
+    requires answers { (verb ≡ Verb.Reply) → engine.answers ≡ true }
     ensures value { IfOk result (λ p.
         task_in p [] ≡ answering_task (text_before verb engine) (Job.Over verb engine)) }
     ensures ready { IfOk result IsReady }

@@ -49,22 +49,24 @@ impl From<NoMemory> for TaskErr {
     }
 }
 
-/// The engine of the file at a path, or what is said instead.
+/// The engine of the file at a path, with the codes of replies where they are sent, or what is said instead.
 pub fn engine_at<F: Shelf>(
     alloc: Global,
     named: &Named,
+    answers: bool,
     path: &[u8],
     shelf: &mut F,
 ) -> Result<Result<Engine, Report>, TaskErr>
     ensures reported { IfOk result (λ reported. (files : Files) → F.files shelf.old ≡ Some files
         → IsMadeOf (codes_in reported) named.now (files path.now) reported) }
+    ensures answers { IfOk result (λ reported. IfOk reported (λ e. e.answers ≡ answers)) }
     ensures files { F.files shelf.new ≡ F.files shelf.old }
     ensures later { F.faults shelf.old ≤ F.faults shelf.new }
     ensures cause { IfErr result (λ e. e ≡ TaskErr.Shelf → Rose (F.faults shelf.old) (F.faults shelf.new)) }
     ensures stands { result ≢ Err TaskErr.Shelf → F.faults shelf.old ≡ F.faults shelf.new }
 {
     let read = unit_at(alloc, named.front, path, shelf)?;
-    Ok(made_of(alloc, named.wire, read)?)
+    Ok(made_of(alloc, named.wire, answers, read)?)
 }
 
 /// The bridge of the file at a path to a second format, or why there is none. The file is read once, and one octet more
@@ -104,9 +106,9 @@ fn bridge_of(
 ) -> Result<Result<Bridge, NoBridge>, NoMemory>
     ensures { IfOk result (λ made. IsBridgeOf named.now to (Some content.now) made) }
 {
-    match engine_of(alloc, named.front, named.wire, content)? {
+    match engine_of(alloc, named.front, named.wire, false, content)? {
         Ok(from) => {
-            let second = engine_of(alloc, named.front, to, content)?;
+            let second = engine_of(alloc, named.front, to, false, content)?;
             Ok(bridged(from, second))
         }
         Err(report) => Ok(Err(NoBridge {
@@ -121,13 +123,15 @@ fn engine_of(
     alloc: Global,
     front: Front,
     wire: Wire,
+    answers: bool,
     content: &[u8],
 ) -> Result<Result<Engine, Report>, NoMemory>
-    ensures { IfOk result (λ reported.
+    ensures made { IfOk result (λ reported.
         IsMadeIn (codes_in reported) front wire (Some content.now) reported) }
+    ensures answers { IfOk result (λ reported. IfOk reported (λ e. e.answers ≡ answers)) }
 {
     let read = read_content(alloc, front, content)?;
-    made_of(alloc, wire, read)
+    made_of(alloc, wire, answers, read)
 }
 
 /// The bridge from an engine to a second one, or why there is none.
@@ -192,25 +196,36 @@ fn read_content(
 fn made_of(
     alloc: Global,
     wire: Wire,
+    answers: bool,
     read: Result<Unit, Report>,
 ) -> Result<Result<Engine, Report>, NoMemory>
     requires sound { IsSoundly read }
-    ensures { IfOk result (λ reported. BoundSays (codes_in reported) wire (plainly read) reported) }
+    ensures says { IfOk result (λ reported. BoundSays (codes_in reported) wire (plainly read) reported) }
+    ensures answers { IfOk result (λ reported. IfOk reported (λ e. e.answers ≡ answers)) }
 {
     match read {
-        Ok(unit) => bound_to(alloc, wire, unit),
+        Ok(unit) => bound_to(alloc, wire, answers, unit),
         Err(report) => Ok(Err(report)),
     }
 }
 
 /// The engine of a unit with messages of a format, or the first reason against it.
-fn bound_to(alloc: Global, wire: Wire, unit: Unit) -> Result<Result<Engine, Report>, NoMemory>
+fn bound_to(
+    alloc: Global,
+    wire: Wire,
+    answers: bool,
+    unit: Unit,
+) -> Result<Result<Engine, Report>, NoMemory>
     requires sound { IsSoundPlain (plain unit) }
-    ensures { IfOk result (λ reported.
+    ensures says { IfOk result (λ reported.
         BindSays (codes_in reported) (plain unit) wire (bind_fault (plain unit) (back_in wire)) reported) }
+    ensures answers { IfOk result (λ reported. IfOk reported (λ e. e.answers ≡ answers)) }
 {
     match bind(alloc, unit, wire.back()) {
-        Ok(bound) => Ok(Ok(Engine::compile_minor(alloc, bound, wire.minor())?)),
+        Ok(bound) => {
+            let engine = Engine::compile_with(alloc, bound, wire.minor(), answers)?;
+            Ok(Ok(engine))
+        }
         Err(BindErr::NoMemory) => Err(NoMemory),
         Err(reason) => Ok(Err(Report::Bind(reason))),
     }

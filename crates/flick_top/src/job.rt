@@ -6,6 +6,7 @@ ghost use Rattle.stub_codes.specs.Stubs.{IsCoded};
 ghost use Rattle.flick_lines.specs.Sent.{SendsTo};
 ghost use Rattle.flick_top.specs.Answer.{reads_stream, written_of, Answering, IsAnswering, IsVerbAnswer, IsWrittenFor, SendsFor};
 ghost use Rattle.flick_top.specs.Task.{engine_in};
+ghost use Rattle.flick_top.specs.Turn.{CanReply};
 
 use crate::answered::{Answered, as_answer, with_end};
 use crate::piped::piped;
@@ -42,6 +43,7 @@ impl Job {
         scratch: &mut Scratch,
         buf: &mut SendBuf,
     ) -> Result<Answered, NoMemory>
+        requires replies { CanReply self.now }
         ensures value { IfOk result (λ a. IsWrittenFor self.now text.now a.octets a.refused) }
         ensures sends { OnOk result (SendsFor self.now text.now buf.old buf.new) }
         ensures spent { NoneFell buf.old.spent buf.new.spent }
@@ -156,6 +158,7 @@ fn answered_by(
     scratch: &mut Scratch,
     buf: &mut SendBuf,
 ) -> Result<Answered, NoMemory>
+    requires answers { (verb ≡ Verb.Reply) → engine.now.answers ≡ true }
     ensures value { IfOk result (λ a. IsVerbAnswer verb engine.now text.now a.octets a.refused) }
     ensures sends { OnOk result (SendsTo verb engine.now text.now buf.old buf.new) }
     ensures spent { NoneFell buf.old.spent buf.new.spent }

@@ -1,8 +1,10 @@
 //! The numbers of words.
 
-ghost use Rattle.std.specs.Prelude.{◌≡◌, ◌≢◌, ◌<◌, ◌≤◌, ◌^◌, ℕ, IfSome, Some, None};
+ghost use Rattle.std.specs.Prelude.{◌≡◌, ◌≤◌, IfSome, Some};
 ghost use Rattle.kit_base.specs.Decimal.{value_on};
 ghost use Rattle.flick_top.specs.Numbers.{at_most, number_in};
+
+use kit_base::decimal_value;
 
 /// The digits of the longest number.
 const MOST_DIGITS: usize = 20;
@@ -23,7 +25,7 @@ fn value_at_most(most: u64, digits: &[u8]) -> Option<u64>
     ensures value { result ≡ at_most most (value_on 0 digits.now) }
     ensures within { IfSome result (λ n. n ≤ most) }
 {
-    match value_of(digits) {
+    match decimal_value(digits) {
         Some(n) => unless_above(most, n),
         None => None,
     }
@@ -38,25 +40,4 @@ fn unless_above(most: u64, n: u64) -> Option<u64>
         return Some(n);
     }
     None
-}
-
-/// The number of digits, where it fits.
-fn value_of(digits: &[u8]) -> Option<u64>
-    ensures some { IfSome result (λ n. value_on 0 digits.now ≡ Some n) }
-    ensures none { result ≡ None → (n : ℕ) → n < 2 ^ 64 → value_on 0 digits.now ≢ Some n }
-{
-    let mut n = 0u64;
-    for d in digits {
-        if *d < 48 || 57 < *d {
-            return None;
-        }
-        let Some(tens) = n.checked_mul(10) else {
-            return None;
-        };
-        let Some(next) = tens.checked_add(u64::from(*d - 48)) else {
-            return None;
-        };
-        n = next;
-    }
-    Some(n)
 }

@@ -8,7 +8,7 @@ ghost use Rattle.stub_codes.specs.Stubs.{IsCoded};
 ghost use Rattle.flick_top.specs.Answer.{Answering};
 ghost use Rattle.flick_top.specs.Dispatch.{AreAnswered};
 ghost use Rattle.flick_top.specs.Task.{answering_task, checking_task, engine_of, report_task, task_in, writing_task};
-ghost use Rattle.flick_top.specs.Turn.{IsReady};
+ghost use Rattle.flick_top.specs.Turn.{CanReply, IsReady};
 
 use crate::job::Job;
 use crate::report::Report;
@@ -51,6 +51,7 @@ impl Prepared {
 
     /// To answer items, after a text.
     pub fn of_job(text: Octets, job: Job) -> Prepared
+        requires replies { CanReply job }
         ensures value { task_in result [] ≡ answering_task text job }
         ensures ready { IsReady result }
     {

@@ -5,7 +5,7 @@ ghost use Rattle.kit_base.specs.Causes.{Rose};
 ghost use Rattle.raw_buf.specs.Buf.{NoneFell};
 ghost use Rattle.flick_top.specs.Dispatch.{Files};
 ghost use Rattle.flick_top.specs.Outside.{TakesPrefix, ComesBy, StandsUnless};
-ghost use Rattle.flick_top.specs.Statement.{Works, YesIsKept, LeavesNothing, IsUsage, NeedsFile, NeedsItems, TakesMore, TakesAtMost, TakesNothing, Completes};
+ghost use Rattle.flick_top.specs.Statement.{Works, YesIsKept, RepliesAreCoded, LeavesNothing, IsUsage, NeedsFile, NeedsItems, TakesMore, TakesAtMost, TakesNothing, Completes};
 ghost use Rattle.flick_top.specs.Status.{source_failed, sink_failed, shelf_failed, too_much};
 
 use crate::command::command_of;
@@ -37,8 +37,9 @@ pub fn flick<F: Shelf, S: Source, K: Sink>(
         → Works made.new words.now files (S.left input.old) (S.left input.new)
         (S.faults input.old) (S.faults input.new) (K.held output.old) (K.held output.new)
         buf.old buf.new result }
-    // What a yes of `check` says of a stub.
+    // What a yes of `check` says of a stub, and which codes the engine has that is left.
     ensures yes { YesIsKept made.new words.now }
+    ensures replies { RepliesAreCoded made.new words.now }
     // What a status says of the words, of what was left, and of what was taken.
     ensures usage { IsUsage words.now result }
     ensures nothing { LeavesNothing made.new (K.held output.old) (K.held output.new) result }

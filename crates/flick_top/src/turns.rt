@@ -10,7 +10,7 @@ ghost use Rattle.flick_top.specs.Statement as statement;
 ghost use Rattle.flick_top.specs.Statement.{TakesMore, TakesAtMost, TakesNothing};
 ghost use Rattle.flick_top.specs.Status.{number_of, sink_failed, source_failed};
 ghost use Rattle.flick_top.specs.Task.{answering_task, engine_in, engine_of, task_in};
-ghost use Rattle.flick_top.specs.Turn.{status_at, IsReady};
+ghost use Rattle.flick_top.specs.Turn.{status_at, CanReply, IsReady};
 
 use crate::answer::answer_to;
 use crate::cutter::Cutter;
@@ -69,6 +69,7 @@ fn answer_items<S: Source, K: Sink>(
     output: &mut K,
     buf: &mut SendBuf,
 ) -> Status
+    requires replies { CanReply job.now }
     // What was done.
     ensures done { (f : Answering) → IsAnswering job.now f → IsCoded (engine_in job.now)
         → statement.Done (answering_task [] job.now) f (Some (engine_in job.now))

@@ -20,7 +20,7 @@ use Rattle.stub_codes.specs.Messages.{request_type}
 use Rattle.stub_codes.specs.Receiving.{Receives, ReceivesOther}
 use Rattle.stub_codes.specs.Replies.{HasArm, arm_type}
 use Rattle.stub_codes.specs.Sending.{Sends}
-use Rattle.stub_codes.specs.Stubs.{AreStubs, replies_in}
+use Rattle.stub_codes.specs.Stubs.{AreReplying, AreStubs, replies_in}
 use Rattle.stub_codes.proofs.Done.{kept_is}
 
 -- ---- heads of replies that are the same
@@ -82,11 +82,11 @@ has_arm b m p k n stubs s code are found there = (are p s found).arms n k (is_wi
 
 -- the code that sends the replies to another operation with the same head and a value of the same type
 pub sends_again : (b : Binding) (m p op k n : ℕ) (stubs : List Stub) (s : Stub) (code : SendCode) → AreStubs b m stubs
-    → slice_get stubs p ≡ Some s → slice_get (replies_in s n) k ≡ Some code → IsMinorOver b.back n
+    → AreReplying b stubs → slice_get stubs p ≡ Some s → slice_get (replies_in s n) k ≡ Some code → IsMinorOver b.back n
     → reply_lead b n op k ≡ reply_lead b n p k → arm_type b p k ≡ arm_type b op k
     → Sends b.back (reply_lead b n op k) (arm_type b op k) code
-sends_again b m p op k n stubs s code are found there version lead same =
+sends_again b m p op k n stubs s code are replying found there version lead same =
     let has = has_arm b m p k n stubs s code are found there in
-    let sends = kept_is b m p k n s code (are p s found) has version there in
+    let sends = kept_is b stubs p k n s code replying found has version there in
     subst (λ (o : Head → List ℕ). Sends b.back o (arm_type b op k) code) (sym lead)
     (subst (λ (t : Ty). Sends b.back (reply_lead b n p k) t code) same sends)

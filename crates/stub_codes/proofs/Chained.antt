@@ -1,18 +1,17 @@
 -- The codes of operations and of their arms, one after the other.
-use Rattle.std.proofs.Common.{◌≡◌, ◌↔◌, ◌<◌, ◌⊎◌, inl, inr, ℕ, Bool, true, false, ◌==◌, if◌then◌else◌, zero, suc, List, [], ◌∷◌, ◌++◌, length, Some, Result, Ok, Err, IfOk, slice_get, refl, sym, ap, subst, ◌∙◌, arith}
+use Rattle.std.proofs.Common.{◌≡◌, ◌↔◌, ◌<◌, ◌⊎◌, inl, inr, ℕ, zero, suc, List, [], ◌∷◌, ◌++◌, length, Some, Result, Ok, Err, IfOk, slice_get, refl, sym, ap, subst, ◌∙◌, arith}
 use Rattle.kit_base.specs.declared.errors.NoMemory.{NoMemory}
 use Rattle.mint.specs.Types.{Ty}
 use Rattle.cast_stub.specs.declared.send.SendCode.{SendCode}
 use Rattle.stub_lower.specs.Leads.{Leads}
 use Rattle.pres.specs.Bindings.{Binding}
-use Rattle.back_cdr.specs.Targets.{IsCdr}
 use Rattle.stub_codes.specs.declared.stub.Stub.{Stub}
 use Rattle.stub_codes.specs.Backs.{encoding, other_encoding, IsMinorOver, lead, reply_lead}
 use Rattle.stub_codes.specs.Messages.{request_type}
 use Rattle.stub_codes.specs.Replies.{HasArm, arm_type}
 use Rattle.stub_codes.specs.Receiving.{Receives, ReceivesOther}
 use Rattle.stub_codes.specs.Sending.{Sends, SendsAfter}
-use Rattle.stub_codes.specs.Stubs.{HasReplies, IsStub, AreStubs, replies_in}
+use Rattle.stub_codes.specs.Stubs.{HasReplies, IsStub, AreReplying, AreStubs, replies_in}
 use Rattle.stub_codes.proofs.Following.{some_same}
 use Rattle.stub_codes.proofs.Leading.{are_heads, are_reply_heads}
 use Rattle.stub_codes.proofs.Places.{item_at}
@@ -21,23 +20,14 @@ use Rattle.stub_codes.proofs.Places.{item_at}
 pub stub_made : (b : Binding) (m op : ℕ) (t : Ty) (first : SendCode) (s : Stub) → t ≡ request_type b op → Leads (lead b m op) first
     → SendsAfter b.back first t s.send
     → Receives (encoding b.back) (request_type b op) s.recv → ReceivesOther (other_encoding b.back) (request_type b op) s.other
-    → HasReplies b 0 op s.replies → ((k : ℕ) → k < length s.replies → HasArm b op k)
-    → (IsCdr b.back → HasReplies b 2 op s.later) → ((k : ℕ) → k < length s.later → HasArm b op k) → IsStub b m op s
-stub_made b m op t first s same leads sends receives other replies arms later later_arms =
+    → ((n k : ℕ) → k < length (replies_in s n) → HasArm b op k) → IsStub b m op s
+stub_made b m op t first s same leads sends receives other arms =
     record {
       send = subst (λ (u : Ty). Sends b.back (lead b m op) u s.send) same (sends (lead b m op) leads (are_heads b.back b m op));
       recv = receives;
       other = other;
-      replies = in_version;
-      arms = λ n. arms_of (n == 0);
-    } where
-      in_version : (n : ℕ) → IsMinorOver b.back n → HasReplies b n op (replies_in s n)
-      in_version n (inl is) = subst (λ (x : ℕ). HasReplies b x op (replies_in s x)) (sym is) replies
-      in_version n (inr (is, cdr)) = subst (λ (x : ℕ). HasReplies b x op (replies_in s x)) (sym is) (later cdr)
-
-      arms_of : (first : Bool) (k : ℕ) → k < length (if first then s.replies else s.later) → HasArm b op k
-      arms_of true = arms
-      arms_of false = later_arms
+      arms = arms;
+    }
 
 -- it sends the replies to an operation with an arm
 abbrev pub IsKept : Binding → ℕ → ℕ → ℕ → SendCode → Type 0
@@ -77,6 +67,14 @@ grown {A = A} P xs x n many each is i y e = placed (last_or_in xs x y i e) where
 pub one_more : (b : Binding) (m : ℕ) (xs : List Stub) (x : Stub) (n : ℕ) → length xs ≡ n → AreStubs b m xs → IsStub b m n x
     → AreStubs b m (xs ++ x ∷ [])
 one_more b m xs x n many each is = grown (IsStub b m) xs x n many each is
+
+-- it sends the replies to an operation, in each version
+abbrev pub SendsReplies : Binding → ℕ → Stub → Type 0
+SendsReplies b op s = (n : ℕ) → IsMinorOver b.back n → HasReplies b n op (replies_in s n)
+
+pub one_replying_more : (b : Binding) (xs : List Stub) (x : Stub) (n : ℕ) → length xs ≡ n → AreReplying b xs → SendsReplies b n x
+    → AreReplying b (xs ++ x ∷ [])
+one_replying_more b xs x n many each is = grown (SendsReplies b) xs x n many each is
 
 -- ---- the codes of arms
 

@@ -40,8 +40,8 @@ requests_cost x op h v coded below numbers typed =
     request_costs x op s h v found (coded.each op s found) numbers typed
 
 pub replies_cost : RepliesHaveCosts
-replies_cost x op k m h v coded below has version numbers typed =
+replies_cost x op k m h v coded answers below has version numbers typed =
     let there : op < length x.stubs = omega (arith, below, coded.many) in
     let (s, found) = item_at x.stubs op there in
-    let (code, kept, sends) = (coded.each op s found).replies m version k has in
+    let (code, kept, sends) = coded.replies answers op s found m version k has in
     reply_costs x op k m code h v (kept_at x.stubs op k m s code found kept) sends numbers typed

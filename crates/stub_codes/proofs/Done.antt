@@ -14,7 +14,7 @@ use Rattle.stub_codes.specs.declared.stub.Stub.{Stub}
 use Rattle.stub_codes.specs.Backs.{IsMinorOver, reply_lead}
 use Rattle.stub_codes.specs.Replies.{HasArm, arm_type}
 use Rattle.stub_codes.specs.Sending.{Sends}
-use Rattle.stub_codes.specs.Stubs.{IsStub, replies_in, sent_cost, reply_code_at, reply_cost}
+use Rattle.stub_codes.specs.Stubs.{AreReplying, replies_in, sent_cost, reply_code_at, reply_cost}
 use Rattle.stub_codes.proofs.Following.{some_same}
 
 -- ---- sending
@@ -76,17 +76,18 @@ kept_at stubs op k m s code found there =
     ap (λ (x : Option Stub). on_some x (λ (y : Stub). slice_get (replies_in y m) k)) found ∙ there
 
 -- and sends the replies with the arm
-pub kept_is : (b : Binding) (n op k m : ℕ) (s : Stub) (code : SendCode) → IsStub b n op s → HasArm b op k → IsMinorOver b.back m
-    → slice_get (replies_in s m) k ≡ Some code → Sends b.back (reply_lead b m op k) (arm_type b op k) code
-kept_is b n op k m s code is has version there =
-    let (kept, found, sends) = is.replies m version k has in
-    subst (λ (x : SendCode). Sends b.back (reply_lead b m op k) (arm_type b op k) x) (some_same kept code (sym found ∙ there)) sends
+pub kept_is : (b : Binding) (stubs : List Stub) (op k m : ℕ) (s : Stub) (code : SendCode) → AreReplying b stubs
+    → slice_get stubs op ≡ Some s → HasArm b op k → IsMinorOver b.back m → slice_get (replies_in s m) k ≡ Some code
+    → Sends b.back (reply_lead b m op k) (arm_type b op k) code
+kept_is b stubs op k m s code replying found has version there =
+    let (kept, at, sends) = replying op s found m version k has in
+    subst (λ (x : SendCode). Sends b.back (reply_lead b m op k) (arm_type b op k) x) (some_same kept code (sym at ∙ there)) sends
 
 -- there is one
-pub none_kept : (b : Binding) (n op k m : ℕ) (s : Stub) → IsStub b n op s → HasArm b op k → IsMinorOver b.back m
-    → slice_get (replies_in s m) k ≡ None → ⊥
-none_kept b n op k m s is has version none =
-    let (kept, found, sends) = is.replies m version k has in
-    never_none kept (slice_get (replies_in s m) k) found none where
+pub none_kept : (b : Binding) (stubs : List Stub) (op k m : ℕ) (s : Stub) → AreReplying b stubs → slice_get stubs op ≡ Some s
+    → HasArm b op k → IsMinorOver b.back m → slice_get (replies_in s m) k ≡ None → ⊥
+none_kept b stubs op k m s replying found has version none =
+    let (kept, at, sends) = replying op s found m version k has in
+    never_none kept (slice_get (replies_in s m) k) at none where
       never_none : (x : SendCode) (y : Option SendCode) → y ≡ Some x → y ≡ None → ⊥
       never_none x y e f = let same = sym e ∙ f in absurd cc

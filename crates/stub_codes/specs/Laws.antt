@@ -1,5 +1,5 @@
 -- Laws of bodies that are received, and of what requests and replies cost.
-use Rattle.std.specs.Prelude.{◌<◌, ℕ, List, length}
+use Rattle.std.specs.Prelude.{◌≡◌, ◌<◌, true, ℕ, List, length}
 use Rattle.mint.specs.Typed.{IsWellTyped}
 use Rattle.mint.specs.Values.{Val}
 use Rattle.wire_def.specs.declared.head.Head.{Head}
@@ -23,7 +23,8 @@ abbrev pub RequestsHaveCosts : Type 0
 RequestsHaveCosts = (x : Coded) (op : ℕ) (h : Head) (v : Val) → IsCoded x → op < length x.binding.ops → IsHead h
     → IsWellTyped (request_type x.binding op) v → IsSparingRequest x op h v
 
--- a reply in a version has a cost, by the code that is kept for its arm, within what its message allows
+-- where replies have codes, one in a version has a cost, by the code that is kept for its arm, within what its message allows
 abbrev pub RepliesHaveCosts : Type 0
-RepliesHaveCosts = (x : Coded) (op k m : ℕ) (h : Head) (v : Val) → IsCoded x → op < length x.binding.ops → HasArm x.binding op k
-    → IsMinorOver x.binding.back m → IsHead h → IsWellTyped (arm_type x.binding op k) v → IsSparingReply x op k m h v
+RepliesHaveCosts = (x : Coded) (op k m : ℕ) (h : Head) (v : Val) → IsCoded x → x.answers ≡ true → op < length x.binding.ops
+    → HasArm x.binding op k → IsMinorOver x.binding.back m → IsHead h → IsWellTyped (arm_type x.binding op k) v
+    → IsSparingReply x op k m h v

@@ -1,5 +1,5 @@
 -- The stub code of each operation of a binding.
-use Rattle.std.specs.Prelude.{◌≡◌, ◌<◌, ℕ, List, length, Some, Option, slice_get, ◌==◌, if◌then◌else◌}
+use Rattle.std.specs.Prelude.{◌≡◌, ◌<◌, Bool, true, ℕ, List, length, Some, Option, slice_get, ◌==◌, if◌then◌else◌}
 use Rattle.mint.specs.Types.{Ty}
 use Rattle.mint.specs.Values.{Val}
 use Rattle.wire_def.specs.declared.head.Head.{Head}
@@ -30,30 +30,37 @@ HasReplies b m op codes = (k : ℕ) → HasArm b op k
 abbrev pub replies_in : Stub → ℕ → List SendCode
 replies_in s m = if m == 0 then s.replies else s.later
 
--- the code of an operation: it sends its requests in a version, receives what goes into it, in either order where there are two,
--- and sends its replies in each version of the back end, one code for each arm
+-- the code of an operation: it sends its requests in a version and receives what goes into it, in either order where there are two;
+-- the codes of replies that it has are those of arms
 pub record IsStub (b : Binding) (m op : ℕ) (s : Stub) : Type 0 where
   pub send : Sends b.back (lead b m op) (request_type b op) s.send
   pub recv : Receives (encoding b.back) (request_type b op) s.recv
   pub other : ReceivesOther (other_encoding b.back) (request_type b op) s.other
-  pub replies : (n : ℕ) → IsMinorOver b.back n → HasReplies b n op (replies_in s n)
   pub arms : (n k : ℕ) → k < length (replies_in s n) → HasArm b op k
 
 -- each of a list is the code of the operation of its place, whose requests are sent in a version
 abbrev pub AreStubs : Binding → ℕ → List Stub → Type 0
 AreStubs b m stubs = (op : ℕ) (s : Stub) → slice_get stubs op ≡ Some s → IsStub b m op s
 
--- a binding, the version of the messages that are sent, and the code of each operation
+-- each of a list sends the replies to the operation of its place in each version of the back end
+abbrev pub AreReplying : Binding → List Stub → Type 0
+AreReplying b stubs = (op : ℕ) (s : Stub) → slice_get stubs op ≡ Some s
+    → (n : ℕ) → IsMinorOver b.back n → HasReplies b n op (replies_in s n)
+
+-- a binding, the version of the messages that are sent, whether replies have codes, and the code of each operation
 pub record Coded : Type 0 where
   pub binding : Binding
   pub minor : ℕ
+  pub answers : Bool
   pub stubs : List Stub
 
--- a version of the back end, and one code for each operation, each the code of its operation
+-- a version of the back end, and one code for each operation, each the code of its operation, with those of its replies where
+-- replies have codes
 pub record IsCoded (c : Coded) : Type 0 where
   pub minor : IsMinorOver c.binding.back c.minor
   pub many : length c.stubs ≡ length c.binding.ops
   pub each : AreStubs c.binding c.minor c.stubs
+  pub replies : c.answers ≡ true → AreReplying c.binding c.stubs
 
 -- what the code of an operation costs that sends
 abbrev pub sent_cost : List Stub → ℕ → Head → Val → Option Cost

@@ -1,6 +1,6 @@
 //! A binding with the code of each of its operations.
 
-ghost use Rattle.std.specs.Prelude.{◌≡◌, ◌<◌, length, IfOk, Some, option_map, slice_get};
+ghost use Rattle.std.specs.Prelude.{◌≡◌, ◌<◌, length, true, IfOk, Some, option_map, slice_get};
 ghost use Rattle.stub_codes.specs.Backs.{encoding, lead, reply_lead, IsMinorOver, Takes};
 ghost use Rattle.stub_codes.specs.Messages.{request_type};
 ghost use Rattle.stub_codes.specs.Receiving.{Receives};
@@ -19,11 +19,12 @@ use std::marker::Model;
 use wire_def::Encoding;
 
 /// The operations of a unit over a back end, each with the code that sends its requests, the code that receives them,
-/// and the codes that send its replies.
+/// and, where replies are sent, the codes that send its replies.
 #[derive(Drop)]
 pub struct Codes {
     bound: Bound,
     minor: u8,
+    answers: bool,
     stubs: Stubs,
 }
 
@@ -38,24 +39,27 @@ impl Model for Codes {
 
     ghost coded = { Prim.hlevel (codes, coded_shape, coded_members, s.the_row.coded, r.the_row.coded) };
 
-    ghost view = { λ c. record { binding = c.bound; minor = c.minor; stubs = c.stubs } };
+    ghost view = { λ c. record { binding = c.bound; minor = c.minor; answers = c.answers; stubs = c.stubs } };
 
-    ghost invariant = { λ c. IsCoded (record { binding = c.bound; minor = c.minor; stubs = c.stubs }) };
+    ghost invariant = { λ c.
+        IsCoded (record { binding = c.bound; minor = c.minor; answers = c.answers; stubs = c.stubs }) };
 }
 
 impl Codes {
-    /// The code of each operation of what is bound, whose messages are sent in a version, by its minor number. The
-    /// nodes are lowered once.
-    pub fn compile(alloc: Global, bound: Bound, minor: u8) -> Result<Codes, NoMemory>
+    /// The code of each operation of what is bound, whose messages are sent in a version, by its minor number, with
+    /// those of replies where replies are sent. The nodes are lowered once.
+    pub fn compile(alloc: Global, bound: Bound, minor: u8, answers: bool) -> Result<Codes, NoMemory>
         requires { IsMinorOver bound.back minor }
         ensures binding { IfOk result (λ c. c.binding ≡ bound) }
         ensures minor { IfOk result (λ c. c.minor ≡ minor) }
+        ensures answers { IfOk result (λ c. c.answers ≡ answers) }
         ensures coded { IfOk result IsCoded }
     {
-        let stubs = stubs_of(alloc, &bound, minor)?;
+        let stubs = stubs_of(alloc, &bound, minor, answers)?;
         Ok(Codes {
             bound,
             minor,
+            answers,
             stubs,
         })
     }
@@ -106,6 +110,7 @@ impl Codes {
 
     /// The code that sends the replies to an operation with an arm, in a version.
     pub fn reply_code(&self, op: u32, arm: u32, minor: u8) -> &SendCode
+        requires answers { self.now.answers ≡ true }
         requires op { op < length self.now.binding.ops }
         requires arm { HasArm self.now.binding op arm }
         requires minor { IsMinorOver self.now.binding.back minor }
@@ -113,6 +118,7 @@ impl Codes {
         ensures sends { Sends self.now.binding.back (reply_lead self.now.binding minor op arm)
             (arm_type self.now.binding op arm) result.now }
     {
+        self.codes_match_operations();
         match self.stub(op).replies_in(minor).get(arm as usize) {
             Some(code) => code.get(),
             None => unreachable!(),

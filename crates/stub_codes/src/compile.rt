@@ -1,6 +1,6 @@
 //! The code of each operation of a binding.
 
-ghost use Rattle.std.specs.Prelude.{◌≡◌, ◌<◌, ◌≤◌, length, IfOk};
+ghost use Rattle.std.specs.Prelude.{◌≡◌, ◌<◌, ◌≤◌, ℕ, length, true, IfOk};
 ghost use Rattle.mint.specs.Types.{type_at};
 ghost use Rattle.stub_lower.specs.Leads.{AreChunks};
 ghost use Rattle.stub_codes.specs.Backs.{encoding, other_encoding, IsMinorOver};
@@ -9,7 +9,7 @@ ghost use Rattle.stub_codes.specs.Lowered.{AreBodies, AreLowered};
 ghost use Rattle.stub_codes.specs.Messages.{request_type};
 ghost use Rattle.stub_codes.specs.Receiving.{Receives, ReceivesOther};
 ghost use Rattle.stub_codes.specs.Sending.{SendsAfter};
-ghost use Rattle.stub_codes.specs.Stubs.{AreStubs, IsStub};
+ghost use Rattle.stub_codes.specs.Stubs.{AreReplying, AreStubs, HasReplies, IsStub, replies_in};
 
 use crate::backs::{encoding_of, lead_of, other_of};
 use crate::bodies::{Bodies, bodies_of, body_of};
@@ -17,10 +17,11 @@ use crate::distinct::{Distinct, distinct_of};
 use crate::earlier::{Earlier, request_type_of, with_request};
 use crate::lowered::{Lowered, lower_all};
 use crate::receiving::{receiving, receiving_other, shared_other};
-use crate::replying::{later_of, replies_of};
+use crate::replying::replies_in_versions;
 use crate::sending::sending;
 use crate::stub::{Stub, Stubs};
 use cast_stub::{RecvCode, SendCode};
+use hoist::copy_code;
 use kit_base::NoMemory;
 use kit_shared::Shared;
 use mint::table::{Mint, NodeId};
@@ -93,10 +94,13 @@ fn request_code(
     ensures { IfOk result (λ code. SendsAfter back lead (type_at mint.now id) code) }
 {
     match bodies.get(id as usize) {
-        Some(Some(body)) => sending(alloc, back, lead, body, low, mint, id),
+        Some(Some(body)) => {
+            let same = copy_code(alloc, body)?;
+            sending(alloc, back, lead, same, low, mint, id)
+        }
         _ => {
             let body = body_of(alloc, &low.sends, mint, id)?;
-            sending(alloc, back, lead, &body, low, mint, id)
+            sending(alloc, back, lead, body, low, mint, id)
         }
     }
 }
@@ -112,6 +116,7 @@ fn stub_of(
     earlier: &mut Earlier,
     op: u32,
     minor: u8,
+    answers: bool,
 ) -> Result<Stub, NoMemory>
     requires op { op < length bound.now.ops }
     requires minor { IsMinorOver bound.now.back minor }
@@ -120,8 +125,11 @@ fn stub_of(
     requires lowered { AreLowered bound.now.back types.now.mint low.now }
     requires few { length stubs.now ≤ length bound.now.ops }
     requires stubs { AreStubs bound.now minor stubs.now }
+    requires replying { answers ≡ true → AreReplying bound.now stubs.now }
     requires bodies { AreBodies low.now.sends bodies.now }
-    ensures { IfOk result (λ stub. IsStub bound.now minor op stub) }
+    ensures is { IfOk result (λ stub. IsStub bound.now minor op stub) }
+    ensures replies { answers ≡ true → IfOk result (λ stub. (n : ℕ) → IsMinorOver bound.now.back n
+        → HasReplies bound.now n op (replies_in stub n)) }
 {
     let back = bound.back();
     let id = request_type_of(bound, types, op);
@@ -129,9 +137,10 @@ fn stub_of(
     let send = request_code(alloc, back, lead, low, bodies, &types.mint, id)?;
     let p = earlier.request(id);
     let (recv, other) = receivers_of(alloc, bound, types, low, stubs, p, op, minor)?;
-    let replies = replies_of(alloc, bound, types, low, stubs, earlier, minor, op, 0)?;
-    let later = later_of(alloc, bound, types, low, stubs, earlier, minor, op)?;
     earlier.keep_request(id, op);
+    let (replies, later) = replies_in_versions(
+        alloc, bound, types, low, stubs, earlier, minor, op, answers,
+    )?;
     Ok(Stub {
         send,
         recv,
@@ -141,11 +150,18 @@ fn stub_of(
     })
 }
 
-/// The code of each operation, in their order, whose requests are sent in a version. The types are lowered once.
-pub(crate) fn stubs_of(alloc: Global, bound: &Bound, minor: u8) -> Result<Stubs, NoMemory>
+/// The code of each operation, in their order, whose requests are sent in a version, with those of replies where
+/// replies are sent. The types are lowered once.
+pub(crate) fn stubs_of(
+    alloc: Global,
+    bound: &Bound,
+    minor: u8,
+    answers: bool,
+) -> Result<Stubs, NoMemory>
     requires { IsMinorOver bound.now.back minor }
     ensures many { IfOk result (λ stubs. length stubs ≡ length bound.now.ops) }
     ensures each { IfOk result (λ stubs. AreStubs bound.now minor stubs) }
+    ensures replying { answers ≡ true → IfOk result (λ stubs. AreReplying bound.now stubs) }
 {
     let types = distinct_of(alloc, bound.mint())?;
     let low = lower_all(alloc, bound.back(), &types.mint)?;
@@ -165,6 +181,7 @@ pub(crate) fn stubs_of(alloc: Global, bound: &Bound, minor: u8) -> Result<Stubs,
                     &mut earlier,
                     op,
                     minor,
+                    answers,
                 )?;
                 stubs.push(stub)?;
             }

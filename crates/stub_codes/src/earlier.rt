@@ -9,7 +9,7 @@ ghost use Rattle.stub_codes.specs.Messages.{request_type};
 ghost use Rattle.stub_codes.specs.Receiving.{Receives, ReceivesOther};
 ghost use Rattle.stub_codes.specs.Replies.{arm_type, HasArm};
 ghost use Rattle.stub_codes.specs.Sending.{Sends};
-ghost use Rattle.stub_codes.specs.Stubs.{AreStubs};
+ghost use Rattle.stub_codes.specs.Stubs.{AreReplying, AreStubs};
 
 use crate::arms::arm_node;
 use crate::compile::request_of;
@@ -200,6 +200,7 @@ pub(crate) fn with_reply<'a>(
     requires same { AreSame types.now.mint bound.now.nodes types.now.ids }
     requires few { length stubs.now ≤ length bound.now.ops }
     requires stubs { AreStubs bound.now _lead stubs.now }
+    requires replying { AreReplying bound.now stubs.now }
     ensures { IfSome result (λ c. Sends bound.now.back (reply_lead bound.now minor op arm)
         (arm_type bound.now op arm) c.now) }
 {

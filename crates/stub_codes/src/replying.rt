@@ -1,13 +1,13 @@
 //! The code that sends an operation's replies.
 
-ghost use Rattle.std.specs.Prelude.{◌≡◌, ◌<◌, ◌≤◌, ℕ, [], length, IfOk};
+ghost use Rattle.std.specs.Prelude.{◌≡◌, ◌<◌, ◌≤◌, ◌==◌, if◌then◌else◌, ℕ, [], length, true, IfOk};
 ghost use Rattle.back_cdr.specs.Targets.{IsCdr};
 ghost use Rattle.stub_codes.specs.Backs.{reply_lead, IsMinorOver};
 ghost use Rattle.stub_codes.specs.Distinct.{AreSame};
 ghost use Rattle.stub_codes.specs.Lowered.{AreLowered};
 ghost use Rattle.stub_codes.specs.Replies.{HasArm, arm_type};
 ghost use Rattle.stub_codes.specs.Sending.{Sends};
-ghost use Rattle.stub_codes.specs.Stubs.{AreStubs, HasReplies};
+ghost use Rattle.stub_codes.specs.Stubs.{AreReplying, AreStubs, HasReplies};
 
 use crate::arms::arms_of;
 use crate::backs::reply_lead_of;
@@ -46,7 +46,7 @@ fn made(
     let lead = reply_lead_of(alloc, bound, op, arm, minor)?;
     let id = arm_type_of(bound, types, op, arm);
     let body = body_of(alloc, &low.sends, &types.mint, id)?;
-    sending(alloc, bound.back(), lead, &body, low, &types.mint, id)
+    sending(alloc, bound.back(), lead, body, low, &types.mint, id)
 }
 
 /// The code that sends the replies to an operation with an arm, in a version: that of an earlier operation where it is
@@ -71,6 +71,7 @@ fn arm_code(
     requires lowered { AreLowered bound.now.back types.now.mint low.now }
     requires few { length stubs.now ≤ length bound.now.ops }
     requires stubs { AreStubs bound.now lead stubs.now }
+    requires replying { AreReplying bound.now stubs.now }
     ensures { IfOk result (λ code.
         Sends bound.now.back (reply_lead bound.now minor op arm) (arm_type bound.now op arm) code) }
 {
@@ -114,6 +115,7 @@ pub(crate) fn replies_of(
     requires lowered { AreLowered bound.now.back types.now.mint low.now }
     requires few { length stubs.now ≤ length bound.now.ops }
     requires stubs { AreStubs bound.now lead stubs.now }
+    requires replying { AreReplying bound.now stubs.now }
     ensures each { IfOk result (λ codes. HasReplies bound.now minor op codes) }
     ensures arms { IfOk result (λ codes. (k : ℕ) → k < length codes → HasArm bound.now op k) }
 {
@@ -146,6 +148,7 @@ pub(crate) fn later_of(
     requires lowered { AreLowered bound.now.back types.now.mint low.now }
     requires few { length stubs.now ≤ length bound.now.ops }
     requires stubs { AreStubs bound.now lead stubs.now }
+    requires replying { AreReplying bound.now stubs.now }
     ensures each { IfOk result (λ codes. IsCdr bound.now.back → HasReplies bound.now 2 op codes) }
     ensures arms { IfOk result (λ codes. (k : ℕ) → k < length codes → HasArm bound.now op k) }
 {
@@ -155,4 +158,36 @@ pub(crate) fn later_of(
         },
         Back::Xdr | Back::Mach => Ok(Listed::new(alloc)),
     }
+}
+
+/// The codes of an operation's replies in version 1.0 and in version 1.2: none where no replies are sent.
+pub(crate) fn replies_in_versions(
+    alloc: Global,
+    bound: &Bound,
+    types: &Distinct,
+    low: &Lowered,
+    stubs: &Stubs,
+    earlier: &mut Earlier,
+    lead: u8,
+    op: u32,
+    answers: bool,
+) -> Result<(Listed<Shared<SendCode>>, Listed<Shared<SendCode>>), NoMemory>
+    requires op { op < length bound.now.ops }
+    requires many { length types.now.ids ≡ length bound.now.nodes }
+    requires same { AreSame types.now.mint bound.now.nodes types.now.ids }
+    requires lowered { AreLowered bound.now.back types.now.mint low.now }
+    requires few { length stubs.now ≤ length bound.now.ops }
+    requires stubs { AreStubs bound.now lead stubs.now }
+    requires replying { answers ≡ true → AreReplying bound.now stubs.now }
+    ensures arms { IfOk result
+        (λ r. (n k : ℕ) → k < length (if n == 0 then r.0 else r.1) → HasArm bound.now op k) }
+    ensures each { answers ≡ true → IfOk result (λ r. (n : ℕ) → IsMinorOver bound.now.back n
+        → HasReplies bound.now n op (if n == 0 then r.0 else r.1)) }
+{
+    if !answers {
+        return Ok((Listed::new(alloc), Listed::new(alloc)));
+    }
+    let replies = replies_of(alloc, bound, types, low, stubs, earlier, lead, op, 0)?;
+    let later = later_of(alloc, bound, types, low, stubs, earlier, lead, op)?;
+    Ok((replies, later))
 }

@@ -1,6 +1,6 @@
 //! Requests that are sent by the code of their operation, and replies by the code of their arm.
 
-ghost use Rattle.std.specs.Prelude.{◌≡◌, ◌<◌, ◌≤◌, [], length, option_map, Some, Err, OnErr, OnOk};
+ghost use Rattle.std.specs.Prelude.{◌≡◌, ◌<◌, ◌≤◌, [], length, true, option_map, Some, Err, OnErr, OnOk};
 ghost use Rattle.kit_base.specs.Limits.{longest_message};
 ghost use Rattle.mint.specs.Typed.{IsWellTyped};
 ghost use Rattle.mint.specs.Values.{seen};
@@ -72,6 +72,7 @@ impl Codes {
         buf: &mut SendBuf,
     ) -> Result<(), SendErr>
         // What is sent.
+        requires answers { self.now.answers ≡ true }
         requires op { op < length self.now.binding.ops }
         requires arm { HasArm self.now.binding op arm }
         requires minor { IsMinorOver self.now.binding.back minor }

@@ -1,6 +1,6 @@
 //! The code that sends the messages of a head and of the values of a node.
 
-ghost use Rattle.std.specs.Prelude.{◌<◌, length, IfOk};
+ghost use Rattle.std.specs.Prelude.{◌≡◌, ◌<◌, ◌++◌, length, IfOk, OnOk};
 ghost use Rattle.mint.specs.Types.{type_at};
 ghost use Rattle.stub_lower.specs.Leads.{AreChunks};
 ghost use Rattle.stub_codes.specs.Lowered.{AreLowered, IsBody};
@@ -8,8 +8,7 @@ ghost use Rattle.stub_codes.specs.Sending.{IsWhole, SendsAfter};
 
 use crate::backs::{encoding_of, put_tail};
 use crate::lowered::Lowered;
-use cast_stub::copies::put_copies;
-use cast_stub::{SendCode, SendSubs};
+use cast_stub::{SendCode, SendOps, SendSubs};
 use chunker::{Phase, chunk};
 use copy_inline::rows;
 use hoist::hoist;
@@ -18,13 +17,23 @@ use mint::table::{Mint, NodeId};
 use std::alloc::Global;
 use wire_def::Back;
 
+/// Puts all operations after those of `out`.
+fn put_all(ops: SendOps, out: &mut SendOps) -> Result<(), NoMemory>
+    ensures { OnOk result (out.new ≡ out.old ++ ops) }
+{
+    for op in ops.into_items() {
+        out.push(op)?;
+    }
+    Ok(())
+}
+
 /// The operations of a head, those of a body, and what states the length.
 #[tactic(auto, using(crate::proofs::Wholes::wholes))]
-fn whole(alloc: Global, back: Back, lead: SendCode, body: &SendCode) -> Result<SendCode, NoMemory>
-    ensures { IfOk result (λ code. IsWhole back lead body.now code) }
+fn whole(alloc: Global, back: Back, lead: SendCode, body: SendCode) -> Result<SendCode, NoMemory>
+    ensures { IfOk result (λ code. IsWhole back lead body code) }
 {
     let mut ops = lead.ops;
-    put_copies(alloc, &body.ops, &mut ops)?;
+    put_all(body.ops, &mut ops)?;
     put_tail(back, &mut ops)?;
     Ok(SendCode {
         ops,
@@ -38,7 +47,7 @@ pub(crate) fn sending(
     alloc: Global,
     back: Back,
     lead: SendCode,
-    body: &SendCode,
+    body: SendCode,
     low: &Lowered,
     mint: &Mint,
     id: NodeId,
@@ -46,12 +55,12 @@ pub(crate) fn sending(
     requires id { id < length mint.now }
     requires lowered { AreLowered back mint.now low.now }
     requires chunks { AreChunks lead }
-    requires body { IsBody low.now.sends id body.now }
+    requires body { IsBody low.now.sends id body }
     ensures { IfOk result (λ code. SendsAfter back lead (type_at mint.now id) code) }
 {
     mint.types_are_sound();
     let given = whole(alloc, back, lead, body)?;
-    let code = hoist(alloc, &given, mint, id, &low.classes)?;
-    let rowed = rows(alloc, encoding_of(back), &code, mint, id)?;
-    chunk(alloc, &rowed, Phase { m: 8, r: 0 })
+    let code = hoist(alloc, given, mint, id, &low.classes)?;
+    let rowed = rows(alloc, encoding_of(back), code, mint, id)?;
+    chunk(alloc, rowed, Phase { m: 8, r: 0 })
 }

@@ -1,13 +1,21 @@
-use Rattle.std.proofs.Common.{ℕ, List, [], Some, sym, ap, ◌∙◌, subst}
+use Rattle.std.proofs.Common.{◌≡◌, ℕ, true, List, [], Some, refl, sym, ap, ◌∙◌, subst}
 use Rattle.flick_top.specs.declared.command.Action.{Action}
 use Rattle.flick_top.specs.Dispatch.{Acts}
-use Rattle.flick_top.specs.Command.{IsOverItems}
+use Rattle.flick_top.specs.Command.{sends_replies, IsOverItems}
 use Rattle.flick_top.specs.declared.job.Job.TheVariants as jobs
 use Rattle.flick_top.specs.Task.{answering_task, task_in, writing_task}
+use Rattle.flick_top.proofs.Coding.{action-coded}
 use Rattle.flick_top.proofs.OverFiles.{served-acts, checked-acts, made-acts}
 use Rattle.flick_top.proofs.Reading.{over_items}
 use Rattle.flick_top.proofs.Tasking.{is-in}
 use Rattle.flick_top.proofs.dispatch.run_action.Goals as goal
+
+pub answering-requires : goal.answering-requires
+answering-requires g c = record { answers = action-coded c.args.action c.in-Answer.verb c.args.engine c.in-Answer.is c.requires.answers }
+
+pub serve_file-requires : goal.serve_file-requires
+serve_file-requires g c =
+    record { answers = c.requires.answers (subst (λ (a : Action). sends_replies a ≡ true) (sym c.in-Serve.is) refl) }
 
 pub returns-in-Serve-clause-items : goal.returns-in-Serve-clause-items
 returns-in-Serve-clause-items g c =

@@ -3,6 +3,6 @@ use Rattle.wire_def.specs.declared.encoding.Back.{Back}
 use Rattle.flick_engine.specs.Backs.{IsMinorOver}
 use Rattle.flick_top.proofs.file.bound_to.Goals as goal
 
-pub compile_minor-requires : goal.compile_minor-requires
-compile_minor-requires c =
+pub compile_with-requires : goal.compile_with-requires
+compile_with-requires c =
     subst (λ (k : Back). IsMinorOver k c.minor.result) (sym (c.in-Ok.ensures.back ∙ c.back.ensures)) c.minor.ensures.is

@@ -1,4 +1,4 @@
-use Rattle.std.proofs.Common.{◌≡◌, sym, ap, ◌∙◌, subst, Result}
+use Rattle.std.proofs.Common.{sym, ap, ◌∙◌, subst, Result}
 use Rattle.std.specs.Prelude.{IfOk}
 use Rattle.kit_base.specs.declared.errors.NoMemory.{NoMemory}
 use Rattle.pres.specs.Bindings.{Binding}

@@ -1,4 +1,5 @@
 use Rattle.std.proofs.Common.{refl}
+use Rattle.flick_top.proofs.Coding.{replies-left}
 use Rattle.flick_top.proofs.Completing.{completes}
 use Rattle.flick_top.proofs.Reading.{needs-items, yes-left}
 use Rattle.flick_top.proofs.Tasking.{shapeless-work, work-of}
@@ -41,3 +42,7 @@ pub returns-in-Ok-clause-yes : goal.returns-in-Ok-clause-yes
 returns-in-Ok-clause-yes g c =
     yes-left c.args.words.now _ _ c.in-Ok.prepared.feed _ _ c.command_of.ensures.value c.in-Some.is c.in-Ok.ensures.items
     c.into_engine.ensures c.yes_is_sent.ensures
+
+pub returns-in-Ok-clause-replies : goal.returns-in-Ok-clause-replies
+returns-in-Ok-clause-replies g c =
+    replies-left c.args.words.now _ _ _ _ c.command_of.ensures.value c.in-Some.is c.into_engine.ensures c.in-Ok.ensures.replies

@@ -1,9 +1,9 @@
-use Rattle.std.proofs.Common.{arith, ◌≡◌, [], ◌∷◌, ◌++◌, List, ℕ, Bool, refl, sym, ap, ◌∙◌, subst, Ok, Err}
+use Rattle.std.proofs.Common.{arith, ◌≡◌, [], ◌∷◌, ◌++◌, ℕ, Bool, refl, sym, ap, ◌∙◌, subst, Err}
 use Rattle.std.specs.Prelude.{if◌then◌else◌}
 use Rattle.std.proofs.KnownBytes.{Appends-nil}
 use Rattle.kit_base.specs.Causes.{Rose}
 use Rattle.kit_base.specs.declared.lines.LineErr.{LineErr}
-use Rattle.kit_base.specs.declared.lines.LineErr.TheVariants.{Failed, TooMuch}
+use Rattle.kit_base.specs.declared.lines.LineErr.TheVariants.{Failed}
 use Rattle.raw_buf.proofs.Standing.{none_fell-refl, none_fell-trans}
 use Rattle.flick_top.specs.Answer.{Answer, cutting_of}
 use Rattle.flick_top.specs.Status.{number_of}

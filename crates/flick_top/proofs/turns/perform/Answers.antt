@@ -5,8 +5,12 @@ use Rattle.flick_top.specs.declared.job.Job.{Job}
 use Rattle.flick_top.specs.Answer.{IsAnswering}
 use Rattle.flick_top.specs.Dispatch.{AreAnswered}
 use Rattle.flick_top.specs.Task.{engine_in, engine_with}
+use Rattle.flick_top.specs.Turn.{FeedCanReply}
 use Rattle.flick_top.proofs.Doing.{after-text, text-alone, text-broken}
 use Rattle.flick_top.proofs.turns.perform.Goals as goal
+
+pub answer_items-requires : goal.answer_items-requires
+answer_items-requires g c = record { replies = subst FeedCanReply c.in-Some.is c.requires.ready.1 }
 
 pub returns-in-Err-clause-done : goal.returns-in-Err-clause-done
 returns-in-Err-clause-done g c = λ f all coded.

@@ -1,6 +1,10 @@
-use Rattle.std.proofs.Common.{◌≡◌, length}
-use Rattle.stub_codes.specs.Stubs.{AreStubs}
+use Rattle.std.proofs.Common.{◌≡◌, true, length}
+use Rattle.stub_codes.specs.Stubs.{AreReplying, AreStubs}
 use Rattle.stub_codes.proofs.compile.stubs_of.Given as goal
 
 abbrev pub invariant-loop-i : goal.invariant-loop-i
-invariant-loop-i l = record { many : length l.stubs ≡ l.i; each : AreStubs l.bound l.minor l.stubs }
+invariant-loop-i l = record {
+  many : length l.stubs ≡ l.i;
+  each : AreStubs l.bound l.minor l.stubs;
+  replying : l.answers ≡ true → AreReplying l.bound l.stubs;
+}

@@ -1,5 +1,10 @@
+use Rattle.flick_top.proofs.Coding.{verb-coded}
 use Rattle.flick_top.proofs.Writing.{bridge-sends}
 use Rattle.flick_top.proofs.job.Job.answer.Goals as goal
+
+pub answered_by-requires : goal.answered_by-requires
+answered_by-requires c =
+    record { answers = verb-coded c.args.self.now c.in-Over.verb c.in-Over.engine c.in-Over.is c.requires.replies }
 
 pub returns-in_ok-message-in-Bridge-clause-sends : goal.returns-in_ok-message-in-Bridge-clause-sends
 returns-in_ok-message-in-Bridge-clause-sends c =

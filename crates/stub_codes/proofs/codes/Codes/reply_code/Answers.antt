@@ -5,8 +5,9 @@ use Rattle.stub_codes.proofs.codes.Codes.reply_code.Goals as goal
 
 pub unreachable-requires : goal.unreachable-requires
 unreachable-requires c =
-    none_kept c.args.self.now.binding c.args.self.now.minor c.args.op c.args.arm c.args.minor c.stub.result.now c.stub.ensures.is
-    c.requires.arm c.requires.minor (sym (rw (c.replies_in.ensures) at c.get.ensures) ∙ ap option_copied c.in-None.is)
+    none_kept c.args.self.now.binding c.args.self.now.stubs c.args.op c.args.arm c.args.minor c.stub.result.now
+    (c.codes_match_operations.ensures.replies c.requires.answers) c.stub.ensures.found c.requires.arm c.requires.minor
+    (sym (rw (c.replies_in.ensures) at c.get.ensures) ∙ ap option_copied c.in-None.is)
 
 pub returns-clause-found : goal.returns-clause-found
 returns-clause-found c =
@@ -17,5 +18,6 @@ returns-clause-found c =
 pub returns-clause-sends : goal.returns-clause-sends
 returns-clause-sends c =
     rw (c.get-in-Some.ensures)
-    (kept_is c.args.self.now.binding c.args.self.now.minor c.args.op c.args.arm c.args.minor c.stub.result.now
-    c.in-Some.code.now c.stub.ensures.is c.requires.arm c.requires.minor (sym (rw (c.replies_in.ensures) at c.in-Some.ensures)))
+    (kept_is c.args.self.now.binding c.args.self.now.stubs c.args.op c.args.arm c.args.minor c.stub.result.now
+    c.in-Some.code.now (c.codes_match_operations.ensures.replies c.requires.answers) c.stub.ensures.found c.requires.arm
+    c.requires.minor (sym (rw (c.replies_in.ensures) at c.in-Some.ensures)))

@@ -1,6 +1,0 @@
-use Rattle.std.proofs.Common.{◌≡◌, drop}
-use Rattle.kit_base.specs.Decimal.{value_on}
-use Rattle.flick_top.proofs.numbers.value_of.Given as goal
-
-abbrev pub invariant-loop-d : goal.invariant-loop-d
-invariant-loop-d l = value_on 0 l.digits ≡ value_on l.n (drop l.d-index l.digits)
