@@ -2,13 +2,13 @@
 
 -- Rows worked by hand: names at a place in B of this file. const long x = 3; interface A { const long x = 1; const string s = "t"; }; module M { const long x = 2; interface B : ::A { .. }; };
 mod Rows
--- * Names in a map of indexmap, as lists, by induction on the list
-pub mod Keyed
--- * Octets are the same where their halves are
-mod Halves
 -- What holds of everything that names stand for, by induction on the names
 pub mod Standing
--- * Where the prefix of a full name ends: before its last identifier, by induction on the octets of that
+-- * Where the prefix of a full name ends: at its last dot, by induction on its octets
 mod Cutting
--- * Names by their keys: what they stand for is what full names do, by induction on the names
+-- * Parts of full names by their numbers, and full names by their keys, by induction on the parts
 mod Parting
+-- * The scopes of keys: the numbers of their prefixes, by induction on the keys
+mod Scoping
+-- * What is held by keys and numbers is what names have, by induction on what is held
+mod Storing

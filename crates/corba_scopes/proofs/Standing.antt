@@ -5,12 +5,11 @@ use Rattle.std.specs.Option.{option_or, option_map}
 use Rattle.std.specs.Str.{bytes_eq}
 use Rattle.idl_exprs.specs.declared.tree.Identifier.{Identifier}
 use Rattle.idl_exprs.specs.declared.tree.ScopedName.{ScopedName}
-use Rattle.corba_scopes.specs.declared.meanings.Entry.{Entry}
 use Rattle.corba_scopes.specs.declared.meanings.Meaning.{Meaning}
 use Rattle.corba_scopes.specs.Around.{prefix_of}
 use Rattle.idl_names.specs.Names.{meaning_of}
-use Rattle.corba_scopes.specs.Names.{Names, Meanings, declared}
-use Rattle.corba_scopes.specs.Finding.{line_of, entry_at, first_in, found, sought, within, first, parts_named, named}
+use Rattle.corba_scopes.specs.Names.{Names, Meanings, here, declared}
+use Rattle.corba_scopes.specs.Finding.{Entry, line_of, entry_at, first_in, found, sought, within, first, parts_named, named, meaning}
 
 -- every meaning is so
 abbrev pub AllMeanings : (Meaning → Type 0) → Meanings → Type 0
@@ -59,7 +58,7 @@ module _ (P : Meaning → Type 0) where
 
   -- what is sought from a place
   pub sought_is : (s : Names) (env : List (List ℕ)) (name : List ℕ) → AllMeanings P s.meanings → IfFound P (sought s env name)
-  sought_is s [] name h = tt
+  sought_is s [] name h = found_is s [] name h
   sought_is s (scope ∷ env) name h = either_is (found s scope name) (sought s env name) (found_is s scope name h) (sought_is s env name h)
 
   within_is : (s : Names) (o : Option Entry) (parts : List Identifier)
@@ -70,19 +69,22 @@ module _ (P : Meaning → Type 0) where
   within_is s (Some e) (part ∷ parts) h r =
       within_is s (found s (prefix_of e.name) part.name) parts h (found_is s (prefix_of e.name) part.name h)
 
-  begins_is : (s : Names) (env : List (List ℕ)) (absolute : Bool) (name : List ℕ)
-      → AllMeanings P s.meanings → IfFound P (first s env absolute name)
-  begins_is s env true name h = found_is s [] name h
-  begins_is s env false name h = sought_is s env name h
+  begins_is : (s : Names) (absolute : Bool) (name : List ℕ) → AllMeanings P s.meanings → IfFound P (first s absolute name)
+  begins_is s true name h = found_is s [] name h
+  begins_is s false name h = sought_is s s.env name h
 
-  parts_are : (s : Names) (env : List (List ℕ)) (absolute : Bool) (parts : List Identifier)
-      → AllMeanings P s.meanings → IfFound P (parts_named s env absolute parts)
-  parts_are s env absolute [] h = tt
-  parts_are s env absolute (part ∷ parts) h = within_is s (first s env absolute part.name) parts h (begins_is s env absolute part.name h)
+  parts_are : (s : Names) (absolute : Bool) (parts : List Identifier)
+      → AllMeanings P s.meanings → IfFound P (parts_named s absolute parts)
+  parts_are s absolute [] h = tt
+  parts_are s absolute (part ∷ parts) h = within_is s (first s absolute part.name) parts h (begins_is s absolute part.name h)
+
+  stands_for : (e : Option Entry) → IfFound P e → IfMeaning P (meaning e)
+  stands_for None h = tt
+  stands_for (Some e) h = h
 
   -- what a scoped name stands for
-  pub named_is : (s : Names) (env : List (List ℕ)) (n : ScopedName) → AllMeanings P s.meanings → IfFound P (named s env n)
-  named_is s env n h = parts_are s env n.absolute n.parts h
+  pub named_is : (s : Names) (n : ScopedName) → AllMeanings P s.meanings → IfMeaning P (meaning (named s n))
+  named_is s n h = stands_for (named s n) (parts_are s n.absolute n.parts h)
 
   -- one more meaning
   pub all_push : (es : Meanings) (e : List ℕ × Meaning) → AllMeanings P es → P e.1 → AllMeanings P (es ++ e ∷ [])
@@ -90,9 +92,9 @@ module _ (P : Meaning → Type 0) where
   all_push (x ∷ xs) e h m = (h.0, all_push xs e h.1 m)
 
   -- a name that is declared
-  pub all_declared : (scope name : List ℕ) (m : Meaning) (s : Names)
-      → AllMeanings P s.meanings → P m → AllMeanings P (declared scope name m s).meanings
-  all_declared scope name m s h r = all_push s.meanings (scope ++ name, m) h r
+  pub all_declared : (name : List ℕ) (m : Meaning) (s : Names)
+      → AllMeanings P s.meanings → P m → AllMeanings P (declared name m s).meanings
+  all_declared name m s h r = all_push s.meanings (here s ++ name, m) h r
 
 -- what follows from what holds of every meaning
 pub all_follow : (P Q : Meaning → Type 0) (es : Meanings) → ((m : Meaning) → P m → Q m) → AllMeanings P es → AllMeanings Q es

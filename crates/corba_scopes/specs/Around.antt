@@ -5,11 +5,7 @@ use Rattle.std.specs.Prelude.{ℕ, ◌==◌, List, [], ◌∷◌, ◌++◌, map,
 abbrev pub prefix_of : List ℕ → List ℕ
 prefix_of full = full ++ codes "."
 
--- the scopes around a place outside of every definition
-abbrev pub file : List (List ℕ)
-file = [] ∷ []
-
--- the innermost of the scopes around a place
+-- the innermost of the scopes around a place; outside of every definition that of the file
 abbrev pub innermost : List (List ℕ) → List ℕ
 innermost [] = []
 innermost (scope ∷ env) = scope
@@ -17,6 +13,11 @@ innermost (scope ∷ env) = scope
 -- the scopes around a place inside what is declared by this name
 abbrev pub inside : List ℕ → List (List ℕ) → List (List ℕ)
 inside name env = prefix_of (innermost env ++ name) ∷ env
+
+-- the scopes around a place outside of the innermost
+abbrev pub outside : List (List ℕ) → List (List ℕ)
+outside [] = []
+outside (scope ∷ env) = env
 
 -- ---- repository ids
 

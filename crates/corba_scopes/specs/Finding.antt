@@ -4,9 +4,9 @@ use Rattle.std.specs.Option.{option_or, option_map, unwrap_or}
 use Rattle.idl_exprs.specs.declared.tree.Identifier.{Identifier}
 use Rattle.idl_exprs.specs.declared.tree.ScopedName.{ScopedName}
 use Rattle.idl_names.specs.Names.{has, meaning_of}
-use Rattle.corba_scopes.specs.declared.meanings.Entry.{Entry}
+use Rattle.corba_scopes.specs.declared.meanings.Meaning.{Meaning}
 use Rattle.corba_scopes.specs.Around.{prefix_of}
-use Rattle.corba_scopes.specs.Names.{Names, put}
+use Rattle.corba_scopes.specs.Names.{Names, here, put}
 
 -- ---- the lines of interfaces
 
@@ -23,15 +23,16 @@ abbrev pub joined : List (List ℕ) → List (List ℕ) → List (List ℕ)
 joined line [] = line
 joined line (scope ∷ scopes) = joined (added scope line) scopes
 
--- a line with that of one more base after it
-abbrev pub with_base : Names → List ℕ → List (List ℕ) → List (List ℕ)
-with_base s base line = joined line (line_of base s)
-
--- the names with the line of an interface's scope
-abbrev pub with_line : List ℕ → List (List ℕ) → Names → Names
-with_line scope line s = record s { lines = put scope line s.lines }
+-- the names with the line of one more base after that of an interface's scope
+abbrev pub with_base : List ℕ → List ℕ → Names → Names
+with_base scope base s = record s { lines = put scope (joined (line_of scope s) (line_of base s)) s.lines }
 
 -- ---- names
+
+-- a full name, and what it stands for
+pub record Entry : Type 0 where
+  pub name : List ℕ
+  pub meaning : Meaning
 
 -- a full name with what it stands for, if it is declared
 abbrev pub entry_at : Names → List ℕ → Option Entry
@@ -46,9 +47,9 @@ first_in s name (scope ∷ scopes) = option_or (entry_at s (scope ++ name)) (fir
 abbrev pub found : Names → List ℕ → List ℕ → Option Entry
 found s scope name = first_in s name (line_of scope s)
 
--- a name in the innermost of the scopes around a place in which it is found
+-- a name in the innermost of the scopes around a place in which it is found, the last of which is that of the file
 abbrev pub sought : Names → List (List ℕ) → List ℕ → Option Entry
-sought s [] name = None
+sought s [] name = found s [] name
 sought s (scope ∷ env) name = option_or (found s scope name) (sought s env name)
 
 -- identifiers after a name, each found in the scope into which what is before it leads
@@ -58,15 +59,24 @@ within s (Some e) [] = Some e
 within s (Some e) (part ∷ parts) = within s (found s (prefix_of e.name) part.name) parts
 
 -- the first identifier of a scoped name: with `::` before it, it is one of the file
-abbrev pub first : Names → List (List ℕ) → Bool → List ℕ → Option Entry
-first s env true name = found s [] name
-first s env false name = sought s env name
+abbrev pub first : Names → Bool → List ℕ → Option Entry
+first s true name = found s [] name
+first s false name = sought s s.env name
 
 -- identifiers that are a scoped name
-abbrev pub parts_named : Names → List (List ℕ) → Bool → List Identifier → Option Entry
-parts_named s env absolute [] = None
-parts_named s env absolute (part ∷ parts) = within s (first s env absolute part.name) parts
+abbrev pub parts_named : Names → Bool → List Identifier → Option Entry
+parts_named s absolute [] = None
+parts_named s absolute (part ∷ parts) = within s (first s absolute part.name) parts
 
--- what a scoped name stands for at a place, if it stands for something
-abbrev pub named : Names → List (List ℕ) → ScopedName → Option Entry
-named s env n = parts_named s env n.absolute n.parts
+-- what a scoped name names here, if it names something
+abbrev pub named : Names → ScopedName → Option Entry
+named s n = parts_named s n.absolute n.parts
+
+-- what a name stands for, if it is declared
+abbrev pub meaning : Option Entry → Option Meaning
+meaning e = option_map (λ e. e.meaning) e
+
+-- the names with one more base of the interface by this name here, if the base is declared
+abbrev pub inheriting : List ℕ → Option Entry → Names → Names
+inheriting name None s = s
+inheriting name (Some base) s = with_base (prefix_of (here s ++ name)) (prefix_of base.name) s

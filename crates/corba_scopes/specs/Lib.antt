@@ -3,3 +3,4 @@ pub mod Names
 pub mod Finding
 pub mod Consts
 pub mod Parted
+pub mod Stored

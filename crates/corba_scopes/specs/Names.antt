@@ -1,4 +1,4 @@
--- The names that are declared, and how a name is declared in a scope.
+-- The names that are declared, the scopes around a place, and how a name is declared in the innermost.
 use Rattle.std.specs.Prelude.{ℕ, List, [], ◌∷◌, ◌++◌, map, Option, Some, None, Ok, if◌then◌else◌}
 use Rattle.std.specs.Str.{bytes_eq}
 use Rattle.std.specs.Char.{to_ascii_lowercase}
@@ -7,20 +7,35 @@ use Rattle.aoi.specs.declared.faults.NameFault.TheVariants.{Twice, CaseClash}
 use Rattle.idl_names.specs.Answers.{Answer, fault, and_then}
 use Rattle.idl_names.specs.Names.{has, is_declared}
 use Rattle.corba_scopes.specs.declared.meanings.Meaning.{Meaning}
+use Rattle.corba_scopes.specs.Around.{innermost, inside, outside}
 
 -- full names in the order of their declarations, each with what it stands for
 abbrev pub Meanings : Type 0
 Meanings = List (List ℕ × Meaning)
 
--- what is declared: full names, each with what it stands for; the same with the last identifier in lower case; the lines of interfaces
+-- what is declared: full names, each with what it stands for; the same with the last identifier in lower case; the lines of interfaces;
+-- and the scopes around the place of the next declaration, the innermost first, without that of the file
 pub record Names : Type 0 where
   pub meanings : Meanings
   pub folded : List (List ℕ)
   pub lines : List (List ℕ × List (List ℕ))
+  pub env : List (List ℕ)
 
 -- nothing is declared
 abbrev pub nothing : Names
-nothing = record { meanings = []; folded = []; lines = [] }
+nothing = record { meanings = []; folded = []; lines = []; env = [] }
+
+-- the innermost scope around the place
+abbrev pub here : Names → List ℕ
+here s = innermost s.env
+
+-- the same at a place inside what is declared by this name
+abbrev pub entered : List ℕ → Names → Names
+entered name s = record s { env = inside name s.env }
+
+-- the same at a place outside of the innermost scope
+abbrev pub left : Names → Names
+left s = record s { env = outside s.env }
 
 -- the same with something held by this name, in its place or after the others
 abbrev pub put : {V : Type 0} → List ℕ → V → List (List ℕ × V) → List (List ℕ × V)
@@ -31,16 +46,17 @@ put name v (e ∷ es) = if bytes_eq name e.0 then (e.0, v) ∷ es else e ∷ put
 abbrev pub lower : List ℕ → List ℕ
 lower name = map to_ascii_lowercase name
 
--- why a name may not be declared in a scope: it is declared there, or one is that differs only in the case of letters
-abbrev pub clash : Names → List ℕ → List ℕ → Option NameFault
-clash s scope name =
-    if is_declared (scope ++ name) s.meanings then Some Twice
-    else if has (scope ++ lower name) s.folded then Some CaseClash
+-- why a name may not be declared here: it is declared in this scope, or one is that differs only in the case of letters
+abbrev pub clash : Names → List ℕ → Option NameFault
+clash s name =
+    if is_declared (here s ++ name) s.meanings then Some Twice
+    else if has (here s ++ lower name) s.folded then Some CaseClash
     else None
 
--- one more name in a scope
-abbrev pub declared : List ℕ → List ℕ → Meaning → Names → Names
-declared scope name m s = record s { meanings = s.meanings ++ (scope ++ name, m) ∷ []; folded = s.folded ++ (scope ++ lower name) ∷ [] }
+-- one more name here
+abbrev pub declared : List ℕ → Meaning → Names → Names
+declared name m s =
+    record s { meanings = s.meanings ++ (here s ++ name, m) ∷ []; folded = s.folded ++ (here s ++ lower name) ∷ [] }
 
 -- the lower of two faults of one identifier: Twice is lower than CaseClash
 abbrev pub lower_of : Option NameFault → Option NameFault → Option NameFault
@@ -54,6 +70,6 @@ abbrev pub refused_by : ℕ → Option NameFault → Answer (Unit {0})
 refused_by d None = Ok tt
 refused_by d (Some f) = fault f d
 
--- one more name in a scope, or its clash
-abbrev pub declared_on : ℕ → Names → List ℕ → List ℕ → Meaning → Answer Names
-declared_on d s scope name m = and_then (refused_by d (clash s scope name)) (λ _. Ok (declared scope name m s))
+-- one more name here, or its clash
+abbrev pub declared_on : ℕ → Names → List ℕ → Meaning → Answer Names
+declared_on d s name m = and_then (refused_by d (clash s name)) (λ _. Ok (declared name m s))

@@ -1,33 +1,17 @@
--- Full names in two parts: a prefix, which may be that of many names, and their own part after it; and their keys, the numbers of both.
-use Rattle.std.specs.Prelude.{◌≡◌, Bool, ◌&&◌, ◌==◌, ℕ, ◌+◌, ◌-◌, zero, suc, List, [], ◌∷◌, ◌++◌, map, take, drop, length, get_or, position, slice_get, Option, Some, None, if◌then◌else◌}
+-- Full names in two parts: the prefix of a scope, and their own part after it; and their keys, the numbers of both.
+use Rattle.std.specs.Prelude.{◌≡◌, Bool, ◌&&◌, ◌==◌, ℕ, zero, suc, List, [], ◌∷◌, ◌++◌, map, take, drop, length, get_or, position, Option, Some, None, if◌then◌else◌}
 use Rattle.std.specs.Map.{lookup}
 use Rattle.std.specs.Str.{bytes_eq}
+use Rattle.corba_scopes.specs.Around.{prefix_of}
 
 -- how long the prefix is, if it ends within the first n octets: the last dot of these is its end
 abbrev pub cut_within : List ℕ → ℕ → ℕ
 cut_within full zero = 0
 cut_within full (suc n) = if get_or full n 0 == 46 then suc n else cut_within full n
 
--- a full name up to its last dot
-abbrev pub stem : List ℕ → List ℕ
-stem full = take (cut_within full (length full)) full
-
--- where the last octets begin, in which a prefix ends
-abbrev pub begins : List ℕ → ℕ
-begins octets = length octets - 1024
-
--- where a dot ends that has a place after so many octets; without one, 0
-abbrev pub cut_by : ℕ → Option ℕ → ℕ
-cut_by front (Some k) = front + k + 1
-cut_by front None = 0
-
--- how long the prefix is of names that are this up to their last dots: up to the first dot of the last octets
-abbrev pub cut_near : List ℕ → ℕ
-cut_near octets = cut_by (begins octets) (position (λ c. c == 46) (drop (begins octets) octets))
-
 -- how long the prefix of a full name is
 abbrev pub cut : List ℕ → ℕ
-cut full = cut_near (stem full)
+cut full = cut_within full (length full)
 
 -- the prefix of a full name
 abbrev pub prefix_in : List ℕ → List ℕ
@@ -72,37 +56,75 @@ key_of full parts = key_by (number_of (own_in full) parts.owns) (number_of (pref
 abbrev pub full_of : Parts → Key → List ℕ
 full_of parts key = get_or parts.prefixes key.0 [] ++ get_or parts.owns key.1 []
 
--- what is held by keys, with their full names
-abbrev pub by_names : {M : Type 0} → Parts → List (Key × M) → List (List ℕ × M)
-by_names parts held = map (λ e. (full_of parts e.0, e.1)) held
+-- the prefix of a scope by its number
+abbrev pub scope_of : Parts → ℕ → List ℕ
+scope_of parts place = get_or parts.prefixes place []
 
 -- a key is that of its full name
 abbrev pub IsKey : Parts → Key → Type 0
 IsKey parts key = key_of (full_of parts key) parts ≡ Some key
 
 -- every key is that of its full name
-abbrev pub AllKeys : {M : Type 0} → Parts → List (Key × M) → Type 0
-AllKeys parts [] = Unit {0}
-AllKeys parts (e ∷ es) = IsKey parts e.0 × AllKeys parts es
+abbrev pub AreKeys : Parts → List Key → Type 0
+AreKeys parts [] = Unit {0}
+AreKeys parts (key ∷ keys) = IsKey parts key × AreKeys parts keys
 
--- a number is found by its text, if there is one with it
-abbrev pub IsNumber : List (List ℕ) → ℕ → Type 0
-IsNumber texts k = (text : List ℕ) → slice_get texts k ≡ Some text → number_of text texts ≡ Some k
+-- the number of a scope is that of its prefix
+abbrev pub IsPlace : Parts → ℕ → Type 0
+IsPlace parts place = number_of (scope_of parts place) parts.prefixes ≡ Some place
+
+-- every number of a scope is that of its prefix
+abbrev pub ArePlaces : Parts → List ℕ → Type 0
+ArePlaces parts [] = Unit {0}
+ArePlaces parts (place ∷ places) = IsPlace parts place × ArePlaces parts places
+
+-- ---- how prefixes are kept: each but that of the file by the key of what has the scope
+
+-- prefixes with those of the scopes of these keys
+abbrev pub prefixes_by : List (List ℕ) → List (List ℕ) → List Key → List (List ℕ)
+prefixes_by owns prefixes [] = prefixes
+prefixes_by owns prefixes (key ∷ keys) =
+    prefixes_by owns (prefixes ++ prefix_of (full_of (record { prefixes = prefixes; owns = owns }) key) ∷ []) keys
+
+-- own parts, and the prefixes of the scopes of these keys after that of the file
+abbrev pub parts_of : List (List ℕ) → List Key → Parts
+parts_of owns keys = record { prefixes = prefixes_by owns ([] ∷ []) keys; owns = owns }
+
+-- the scopes of keys: each prefix but the first is that of a key's full name
+pub record AreScopes (parts : Parts) (known : List Key) : Type 0 where
+  pub prefixes : parts.prefixes ≡ [] ∷ map (λ key. prefix_of (full_of parts key)) known
+  pub keys : AreKeys parts known
+
+-- ---- more parts
 
 -- texts with one among them, which has this number
 pub record Puts (text : List ℕ) (old new : List (List ℕ)) (k : ℕ) : Type 0 where
   pub more : new ≡ old ++ drop (length old) new
   pub number : number_of text new ≡ Some k
 
--- the parts of old names, with those of a full name that has this key
-pub record PutsKey (full : List ℕ) (old new : Parts) (key : Key) : Type 0 where
+-- parts of which more may have come
+pub record Extends (old new : Parts) : Type 0 where
   pub prefixes : new.prefixes ≡ old.prefixes ++ drop (length old.prefixes) new.prefixes
   pub owns : new.owns ≡ old.owns ++ drop (length old.owns) new.owns
+
+-- the parts of old names, with those of a full name that has this key
+pub record PutsKey (full : List ℕ) (old new : Parts) (key : Key) : Type 0 where
+  pub more : Extends old new
   pub at : key_of full new ≡ Some key
+
+-- the parts of old names, with the prefix of a scope that has this number
+pub record PutsScope (scope : List ℕ) (old new : Parts) (place : ℕ) : Type 0 where
+  pub more : Extends old new
+  pub at : number_of scope new.prefixes ≡ Some place
+
+-- the parts of old names, with the prefixes of two scopes that have these numbers
+pub record PutsScopes (scope other : List ℕ) (old new : Parts) (place second : ℕ) : Type 0 where
+  pub more : Extends old new
+  pub at : number_of scope new.prefixes ≡ Some place
+  pub at_other : number_of other new.prefixes ≡ Some second
 
 -- the parts of old names, with those of two full names that have these keys
 pub record PutsBoth (full other : List ℕ) (old new : Parts) (key below : Key) : Type 0 where
-  pub prefixes : new.prefixes ≡ old.prefixes ++ drop (length old.prefixes) new.prefixes
-  pub owns : new.owns ≡ old.owns ++ drop (length old.owns) new.owns
+  pub more : Extends old new
   pub at_full : key_of full new ≡ Some key
   pub at_other : key_of other new ≡ Some below

@@ -4,28 +4,21 @@ ghost use Rattle.std.specs.Prelude.{◌≡◌};
 ghost use Rattle.idl_names.specs.Answers.{Gives};
 ghost use Rattle.corba_scopes.specs.Consts.{number_of, leaf_number, number, constant, length_of};
 
-use crate::meanings::{Constant, Entry, Meaning};
-use crate::scope::Scope;
+use crate::meanings::{Constant, Meaning};
 use crate::state::Scopes;
 use aoi::{NameErr, NameFault};
 use idl_const::{binary, unary};
 use idl_exprs::{Expr, Leaf, Node};
 use idl_names::{in_range, natural};
 use kit_base::Name;
-use std::alloc::Global;
 
 /// The number that a name stands for, or the fault of a name that stands for none.
-fn number_of(decl: u32, entry: Option<Entry>) -> Result<i128, NameErr>
-    ensures value { Gives (λ x. x) result (number_of decl entry) }
-    ensures exact { result ≡ number_of decl entry }
+fn number_of(decl: u32, meaning: Option<Meaning>) -> Result<i128, NameErr>
+    ensures value { Gives (λ x. x) result (number_of decl meaning) }
+    ensures exact { result ≡ number_of decl meaning }
 {
-    let fault = match entry {
-        Some(
-            Entry {
-                meaning: Meaning::Number(n),
-                ..
-            },
-        ) => return Ok(n),
+    let fault = match meaning {
+        Some(Meaning::Number(n)) => return Ok(n),
         Some(_) => NameFault::NotConst,
         None => NameFault::Unknown,
     };
@@ -34,14 +27,8 @@ fn number_of(decl: u32, entry: Option<Entry>) -> Result<i128, NameErr>
 
 impl Scopes {
     /// The number of a leaf.
-    fn leaf_number(
-        &self,
-        alloc: Global,
-        env: &[Scope],
-        decl: u32,
-        leaf: &Leaf,
-    ) -> Result<i128, NameErr>
-        ensures { Gives (λ x. x) result (leaf_number self.now env.now decl leaf.now) }
+    fn leaf_number(&self, decl: u32, leaf: &Leaf) -> Result<i128, NameErr>
+        ensures { Gives (λ x. x) result (leaf_number self.now decl leaf.now) }
     {
         match leaf {
             Leaf::Number(n) => Ok(*n),
@@ -52,61 +39,43 @@ impl Scopes {
             }),
             Leaf::Truth(true) => Ok(1),
             Leaf::Truth(false) => Ok(0),
-            Leaf::Name(name) => number_of(decl, self.named(alloc, env, name)?),
+            Leaf::Name(name) => number_of(decl, self.named(name)),
         }
     }
 
-    /// The number of an expression at a place, or its leftmost fault.
-    pub fn number(
-        &self,
-        alloc: Global,
-        env: &[Scope],
-        decl: u32,
-        expr: &Expr,
-    ) -> Result<i128, NameErr>
-        ensures { Gives (λ x. x) result (number self.now env.now decl expr.now) }
+    /// The number of an expression here, or its leftmost fault.
+    pub fn number(&self, decl: u32, expr: &Expr) -> Result<i128, NameErr>
+        ensures { Gives (λ x. x) result (number self.now decl expr.now) }
     {
         match &expr.node {
-            Node::Leaf(leaf) => self.leaf_number(alloc, env, decl, leaf),
+            Node::Leaf(leaf) => self.leaf_number(decl, leaf),
             Node::Unary(op, operand) => {
-                let n = self.number(alloc, env, decl, operand)?;
+                let n = self.number(decl, operand)?;
                 in_range(decl, unary(*op, n))
             }
             Node::Binary(op, left, right) => {
-                let left = self.number(alloc, env, decl, left)?;
-                let right = self.number(alloc, env, decl, right)?;
+                let left = self.number(decl, left)?;
+                let right = self.number(decl, right)?;
                 in_range(decl, binary(*op, left, right))
             }
         }
     }
 
-    /// The value of a constant at a place: a string alone is a string, and anything else a number.
-    pub fn constant(
-        &self,
-        alloc: Global,
-        env: &[Scope],
-        decl: u32,
-        expr: &Expr,
-    ) -> Result<Constant, NameErr>
-        ensures { Gives (λ x. x) result (constant self.now env.now decl expr.now) }
+    /// The value of a constant here: a string alone is a string, and anything else a number.
+    pub fn constant(&self, decl: u32, expr: &Expr) -> Result<Constant, NameErr>
+        ensures { Gives (λ x. x) result (constant self.now decl expr.now) }
     {
         match &expr.node {
             Node::Leaf(Leaf::Text(codes)) => Ok(Constant::Text(codes.len())),
-            _ => Ok(Constant::Number(self.number(alloc, env, decl, expr)?)),
+            _ => Ok(Constant::Number(self.number(decl, expr)?)),
         }
     }
 
-    /// A bound, or the length of an array, at a place: from 1 up to 2^32 - 1.
-    pub fn length(
-        &self,
-        alloc: Global,
-        env: &[Scope],
-        decl: u32,
-        expr: &Expr,
-    ) -> Result<u32, NameErr>
-        ensures { Gives (λ x. x) result (length_of self.now env.now decl expr.now) }
+    /// A bound, or the length of an array, here: from 1 up to 2^32 - 1.
+    pub fn length(&self, decl: u32, expr: &Expr) -> Result<u32, NameErr>
+        ensures { Gives (λ x. x) result (length_of self.now decl expr.now) }
     {
-        let n = self.number(alloc, env, decl, expr)?;
+        let n = self.number(decl, expr)?;
         natural(1, decl, n)
     }
 }

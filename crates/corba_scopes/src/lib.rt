@@ -5,21 +5,23 @@
 mod around;
 mod clashes;
 mod consts;
+mod declaring;
 mod finding;
 mod held;
 mod ids;
+mod inheriting;
 mod keys;
+mod lines;
 mod meanings;
-mod orders;
+mod placing;
 mod prefixes;
 mod scope;
 mod state;
+mod store;
 mod texts;
 
-pub use around::{Env, full_name, id_in, innermost, inside, named_in, of_file, scope_after};
+pub use around::full_name;
 pub use clashes::{lower_of, refuse_fault};
 pub use idl_names::{Tag, Use};
-pub use meanings::{Constant, Entry, Meaning};
-pub use orders::BaseOrder;
-pub use scope::Scope;
+pub use meanings::{Constant, Meaning};
 pub use state::Scopes;

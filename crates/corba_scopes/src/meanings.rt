@@ -3,7 +3,7 @@
 ghost use Rattle.std.specs.Prelude.{◌≡◌};
 ghost use Rattle.corba_scopes.specs.Consts.{meaning_of_constant};
 
-use aoi::FullName;
+use crate::keys::Key;
 use idl_names::Use;
 use mint::kind::Count;
 
@@ -26,6 +26,15 @@ pub enum Meaning {
     Other,
 }
 
+/// What is found by a name.
+#[derive(Clone, Copy)]
+pub(crate) struct Found {
+    /// The key of its full name.
+    pub(crate) key: Key,
+    /// What that stands for.
+    pub(crate) meaning: Meaning,
+}
+
 /// The value of a constant.
 #[derive(Clone, Copy, Debug, PartialEq, Eq)]
 pub enum Constant {
@@ -45,13 +54,4 @@ impl Constant {
             Constant::Text(_) => Meaning::Text,
         }
     }
-}
-
-/// A name that is declared.
-#[derive(Debug, Drop)]
-pub struct Entry {
-    /// Its full name: the prefix of its scope, and itself.
-    pub name: FullName,
-    /// What it stands for.
-    pub meaning: Meaning,
 }

@@ -1,243 +1,150 @@
-//! The names of a file, and how one is declared.
+//! The names of a file, and the place of the next declaration.
 
-ghost use Rattle.std.specs.Prelude.{◌≡◌, ◌++◌, None, IfOk, OnOk};
+ghost use Rattle.std.specs.Prelude.{◌≡◌, ◌++◌, None, option_map, IfOk, OnOk};
 ghost use Rattle.idl_names.specs.Answers.{Gives};
-ghost use Rattle.idl_names.specs.Names.{has, is_declared, meaning_of};
-ghost use Rattle.corba_scopes.specs.Names.{lower, nothing, clash, declared, declared_on, refused_by};
-ghost use Rattle.corba_scopes.specs.Finding.{with_base, with_line};
-ghost use Rattle.corba_scopes.specs.Parted.{same_key};
-ghost use Rattle.indexmap.specs.IndexMap.{insert_entry};
+ghost use Rattle.corba_scopes.specs.Around.{ids_of};
+ghost use Rattle.corba_scopes.specs.Names.{nothing, here, entered, left, clash, declared, declared_on, refused_by};
+ghost use Rattle.corba_scopes.specs.Finding.{found, named, meaning, inheriting};
 
 use crate::clashes::refuse_fault;
-use crate::held::Held;
-use crate::keys::{Key, Keys};
-use crate::meanings::Meaning;
-use crate::orders::{BaseOrder, BaseOrders};
-use crate::scope::Scope;
-use aoi::{NameErr, NameFault};
+use crate::meanings::{Found, Meaning};
+use crate::store::Store;
+use aoi::{FullName, NameErr, NameFault};
+use idl_exprs::ScopedName;
 use kit_base::NoMemory;
 use std::alloc::Global;
 use std::marker::Model;
 use std::mem::replace;
 
-/// An identifier with its letters in lower case.
-fn lower(alloc: Global, name: &[u8]) -> Result<Vec<u8>, NoMemory>
-    ensures { IfOk result (λ key. key.items ≡ lower name.now) }
+/// What a name stands for, if it is found.
+fn meaning_of(found: Option<Found>) -> Option<Meaning>
+    ensures { result ≡ option_map (λ f. f.meaning) found }
 {
-    Ok(name.to_ascii_lowercase(alloc)?)
+    Some(found?.meaning)
 }
 
-/// Puts what a name stands for by its key, and the name in lower case by its own.
-fn put_both(
-    table: &mut Held<Meaning>,
-    folded: &mut Held<()>,
-    key: Key,
-    below: Key,
-    meaning: Meaning,
-) -> Result<(), NoMemory>
-    ensures table { OnOk result (table.new ≡ insert_entry same_key table.old key meaning) }
-    ensures folded { OnOk result (folded.new ≡ insert_entry same_key folded.old below tt) }
-{
-    table.put(key, meaning)?;
-    folded.put(below, ())
-}
-
-/// The names that a file has declared, each in its scope.
+/// The names that a file has declared, each in its scope, and the scopes around the place of the next declaration.
 #[derive(Drop)]
 pub struct Scopes {
-    /// The keys of full names.
-    keys: Keys,
-    /// What each name stands for.
-    table: Held<Meaning>,
-    /// The same names with the last identifier in lower case.
-    folded: Held<()>,
-    /// The lines of interfaces.
-    lines: BaseOrders,
+    store: Store,
 }
 
 impl Model for Scopes {
-    ghost use Rattle.corba_scopes.specs.Names.{Names};
-    ghost use Rattle.corba_scopes.specs.Parted.{by_names, AllKeys};
-    ghost use Rattle.std.specs.Prelude.{map};
     ghost use Rattle.std.specs.Coded.{codes};
+    ghost use Rattle.corba_scopes.specs.Names.{Names};
 
     ghost Value = { Names };
 
-    ghost view = { λ s. record {
-      meanings = by_names s.keys s.table;
-      folded = map (λ e. e.0) (by_names s.keys s.folded);
-      lines = s.lines;
-    } };
-
-    ghost invariant = { λ s. AllKeys s.keys s.table × AllKeys s.keys s.folded };
+    ghost view = { λ s. s.store.names };
 }
 
 impl Scopes {
-    /// No names.
+    /// No names, at a place outside of every definition.
     pub fn new(alloc: Global) -> Scopes
         ensures { result ≡ nothing }
     {
         Scopes {
-            keys: Keys::new(alloc),
-            table: Held::new(alloc),
-            folded: Held::new(alloc),
-            lines: BaseOrders::new(alloc),
+            store: Store::new(alloc),
         }
     }
 
-    /// What a name of a scope stands for, if it is declared.
-    pub(crate) fn meaning(
-        &self,
-        alloc: Global,
-        scope: &[u8],
-        name: &[u8],
-    ) -> Result<Option<Meaning>, NoMemory>
-        ensures { IfOk result (λ m. m ≡ meaning_of (scope.now ++ name.now) self.now.meanings) }
+    /// Goes to a place inside what is declared by this name here. Where that is out of memory, no name is left.
+    pub fn enter(&mut self, alloc: Global, name: &[u8]) -> Result<(), NoMemory>
+        ensures ok { OnOk result (self.new ≡ entered name.now self.old) }
     {
-        match self.keys.key(alloc, scope, name)? {
-            Some(key) => Ok(self.table.at(key)),
-            None => Ok(None),
-        }
-    }
-
-    /// Whether a name of a scope is declared.
-    fn has(&self, alloc: Global, scope: &[u8], name: &[u8]) -> Result<bool, NoMemory>
-        ensures { IfOk result (λ b. b ≡ is_declared (scope.now ++ name.now) self.now.meanings) }
-    {
-        Ok(self.meaning(alloc, scope, name)?.is_some())
-    }
-
-    /// Whether a name of a scope is declared, in lower case.
-    fn has_small(&self, alloc: Global, scope: &[u8], small: &[u8]) -> Result<bool, NoMemory>
-        ensures { IfOk result (λ b. b ≡ has (scope.now ++ small.now) self.now.folded) }
-    {
-        match self.keys.key(alloc, scope, small)? {
-            Some(key) => Ok(self.folded.at(key).is_some()),
-            None => Ok(false),
-        }
-    }
-
-    /// The lines of interfaces.
-    pub(crate) fn lines(&self) -> &BaseOrders
-        ensures { result.now ≡ self.now.lines }
-    {
-        &self.lines
-    }
-
-    /// Why a name may not be declared in a scope, or nothing.
-    pub fn clash(
-        &self,
-        alloc: Global,
-        scope: &[u8],
-        name: &[u8],
-    ) -> Result<Option<NameFault>, NoMemory>
-        ensures { IfOk result (λ fault. fault ≡ clash self.now scope.now name.now) }
-    {
-        if self.has(alloc, scope, name)? {
-            return Ok(Some(NameFault::Twice));
-        }
-        if self.has_small(alloc, scope, lower(alloc, name)?.as_slice())? {
-            return Ok(Some(NameFault::CaseClash));
-        }
-        Ok(None)
-    }
-
-    /// Refuses a name that may not be declared in a scope.
-    pub fn refuse_clash(
-        &self,
-        alloc: Global,
-        decl: u32,
-        scope: &[u8],
-        name: &[u8],
-    ) -> Result<(), NameErr>
-        ensures { Gives (λ x. x) result (refused_by decl (clash self.now scope.now name.now)) }
-    {
-        let fault = self.clash(alloc, scope, name)?;
-        refuse_fault(decl, fault)
-    }
-
-    /// These, with a name that clashes with none of them.
-    fn extended(
-        self,
-        alloc: Global,
-        scope: &[u8],
-        name: &[u8],
-        meaning: Meaning,
-    ) -> Result<Scopes, NoMemory>
-        requires { clash self scope.now name.now ≡ None }
-        ensures { IfOk result (λ s. s ≡ declared scope.now name.now meaning self) }
-    {
-        let small = lower(alloc, name)?;
-        let Scopes {
-            keys,
-            mut table,
-            mut folded,
-            lines,
-        } = self;
-        match keys.with_both(alloc, scope, name, small.as_slice()) {
-            Ok((keys, key, below)) => match put_both(&mut table, &mut folded, key, below, meaning) {
-                Ok(()) => Ok(Scopes {
-                    keys,
-                    table,
-                    folded,
-                    lines,
-                }),
-                Err(out) => Err(out),
-            },
-            Err(out) => Err(out),
-        }
-    }
-
-    /// Declares a name that clashes with none. Where that is out of memory, no name is left.
-    pub fn declare(
-        &mut self,
-        alloc: Global,
-        scope: &[u8],
-        name: &[u8],
-        meaning: Meaning,
-    ) -> Result<(), NoMemory>
-        requires { clash self.old scope.now name.now ≡ None }
-        ensures ok { OnOk result (self.new ≡ declared scope.now name.now meaning self.old) }
-    {
-        let held = replace(self, Scopes::new(alloc));
-        *self = held.extended(alloc, scope, name, meaning)?;
+        let store = replace(&mut self.store, Store::new(alloc));
+        self.store = store.entered(alloc, name)?;
         Ok(())
     }
 
-    /// Declares a name, or refuses it where it clashes.
+    /// Goes to a place outside of the innermost scope.
+    pub fn leave(&mut self)
+        ensures { self.new ≡ left self.old }
+    {
+        self.store.leave();
+    }
+
+    /// The full name of what is declared by this name here.
+    pub fn full_name(&self, alloc: Global, name: &[u8]) -> Result<FullName, NoMemory>
+        ensures { IfOk result (λ full. full ≡ here self.now ++ name.now) }
+    {
+        self.store.full_name(alloc, name)
+    }
+
+    /// The repository id of what is declared by this name here, with this end.
+    pub fn id(&self, alloc: Global, name: &[u8], end: &[u8]) -> Result<FullName, NoMemory>
+        ensures { IfOk result (λ id. id ≡ ids_of (here self.now ++ name.now) ++ end.now) }
+    {
+        self.store.id(alloc, name, end)
+    }
+
+    /// Why a name may not be declared here, or nothing.
+    pub fn clash(&self, alloc: Global, name: &[u8]) -> Result<Option<NameFault>, NoMemory>
+        ensures { IfOk result (λ fault. fault ≡ clash self.now name.now) }
+    {
+        self.store.clash(alloc, name)
+    }
+
+    /// Refuses a name that may not be declared here.
+    pub fn refuse_clash(&self, alloc: Global, decl: u32, name: &[u8]) -> Result<(), NameErr>
+        ensures { Gives (λ x. x) result (refused_by decl (clash self.now name.now)) }
+    {
+        let fault = self.clash(alloc, name)?;
+        refuse_fault(decl, fault)
+    }
+
+    /// Declares a name here that clashes with none. Where that is out of memory, no name is left.
+    fn declare(&mut self, alloc: Global, name: &[u8], meaning: Meaning) -> Result<(), NoMemory>
+        requires { clash self.old name.now ≡ None }
+        ensures { OnOk result (self.new ≡ declared name.now meaning self.old) }
+    {
+        let store = replace(&mut self.store, Store::new(alloc));
+        self.store = store.declared(alloc, name, meaning)?;
+        Ok(())
+    }
+
+    /// Declares a name here, or refuses it where it clashes. Where that is out of memory, no name is left.
     pub fn declare_new(
         &mut self,
         alloc: Global,
         decl: u32,
-        scope: &[u8],
         name: &[u8],
         meaning: Meaning,
     ) -> Result<(), NameErr>
-        ensures { Gives (λ _. self.new) result (declared_on decl self.old scope.now name.now meaning) }
+        ensures { Gives (λ _. self.new) result (declared_on decl self.old name.now meaning) }
     {
-        match self.clash(alloc, scope, name)? {
+        match self.clash(alloc, name)? {
             Some(fault) => Err(NameErr { fault, decl }),
             None => {
-                self.declare(alloc, scope, name, meaning)?;
+                self.declare(alloc, name, meaning)?;
                 Ok(())
             }
         }
     }
 
-    /// Puts the scopes of one more base after those of an interface's line.
-    pub fn add_base(&self, base: &Scope, line: &mut BaseOrder) -> Result<(), NoMemory>
-        ensures { OnOk result (line.new ≡ with_base self.now base.now line.old) }
+    /// Puts the line of one more base after that of the interface by this name here, if the base is declared. Where that is
+    /// out of memory, no name is left.
+    pub fn inherit(&mut self, alloc: Global, name: &[u8], base: &ScopedName) -> Result<(), NoMemory>
+        ensures { OnOk result (self.new ≡ inheriting name.now (named self.old base.now) self.old) }
     {
-        match self.lines.line(base.as_slice()) {
-            Some(other) => line.join(other),
-            None => line.share(base),
+        if let Some(base) = self.store.named(base) {
+            let store = replace(&mut self.store, Store::new(alloc));
+            self.store = store.with_base(alloc, name, base.key)?;
         }
+        Ok(())
     }
 
-    /// Keeps the line of an interface's scope.
-    pub fn put_line(&mut self, alloc: Global, scope: &[u8], line: BaseOrder) -> Result<(), NoMemory>
-        ensures { OnOk result (self.new ≡ with_line scope.now line self.old) }
+    /// What a name stands for in the innermost scope or, where that is an interface's, in a base.
+    pub fn found_here(&self, name: &[u8]) -> Option<Meaning>
+        ensures { result ≡ meaning (found self.now (here self.now) name.now) }
     {
-        self.lines.put(alloc, scope, line)
+        meaning_of(self.store.found(self.store.place(), name))
+    }
+
+    /// What a scoped name stands for here, if it stands for something.
+    pub fn named(&self, name: &ScopedName) -> Option<Meaning>
+        ensures { result ≡ meaning (named self.now name.now) }
+    {
+        meaning_of(self.store.named(name))
     }
 }

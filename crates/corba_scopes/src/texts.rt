@@ -8,25 +8,19 @@ use kit_base::NoMemory;
 use std::alloc::Global;
 use std::marker::Model;
 
-/// Texts in the order of their numbers.
+/// Texts, each once, in the order of their numbers.
 #[derive(Drop)]
 pub(crate) struct Texts {
-    /// Each text once.
     set: IndexSet<Vec<u8>>,
-    /// The number of the one that was put in or met last, which is compared before any is sought.
-    last: usize,
 }
 
 impl Model for Texts {
     ghost use Rattle.std.specs.Prelude.{List, ℕ, map};
     ghost use Rattle.std.specs.Coded.{codes};
-    ghost use Rattle.corba_scopes.specs.Parted.{IsNumber};
 
     ghost Value = { List (List ℕ) };
 
     ghost view = { λ s. map (λ k. k.items) s.set.keys };
-
-    ghost invariant = { λ s. IsNumber (map (λ k. k.items) s.set.keys) s.last };
 }
 
 impl Texts {
@@ -36,7 +30,6 @@ impl Texts {
     {
         Texts {
             set: IndexSet::new(alloc),
-            last: 0,
         }
     }
 
@@ -44,11 +37,6 @@ impl Texts {
     pub(crate) fn number(&self, text: &[u8]) -> Option<usize>
         ensures { result ≡ number_of text.now self.now }
     {
-        if let Some(last) = self.set.get_index(self.last) {
-            if last.as_slice() == text {
-                return Some(self.last);
-            }
-        }
         self.set.get_index_of(text)
     }
 
@@ -57,10 +45,10 @@ impl Texts {
         requires { number_of text.now self ≡ None }
         ensures { IfOk result (λ r. Puts text.now self r.0 r.1) }
     {
-        let Texts { mut set, last: _ } = self;
+        let Texts { mut set } = self;
         let last = set.len();
         set.insert(Vec::from_slice(alloc, text)?)?;
-        Ok((Texts { set, last }, last))
+        Ok((Texts { set }, last))
     }
 
     /// These with a text among them, and its number.
@@ -68,10 +56,7 @@ impl Texts {
         ensures { IfOk result (λ r. Puts text.now self r.0 r.1) }
     {
         match self.number(text) {
-            Some(last) => {
-                let Texts { set, last: _ } = self;
-                Ok((Texts { set, last }, last))
-            }
+            Some(number) => Ok((self, number)),
             None => self.extended(alloc, text),
         }
     }

@@ -32,14 +32,14 @@ use Rattle.corba_shapes.proofs.Filling.{placed_is}
 
 -- ---- the tag
 
-pub tag_use_is : (types : List Shape) (labels : List (ℕ × ℤ)) (s : Names) (env : List (List ℕ)) (d : ℕ) (t : TagTree) (u : Use)
-    → ScopeIs types labels s → tag_use s env d t ≡ Ok u → UseIs types labels u
-tag_use_is types labels s env d (T.Int i) u is h = subst (UseIs types labels) (ok_same (Number (kind_of i)) u h) tt
-tag_use_is types labels s env d T.Char u is h = subst (UseIs types labels) (ok_same _ u h) tt
-tag_use_is types labels s env d T.Boolean u is h = subst (UseIs types labels) (ok_same _ u h) tt
-tag_use_is types labels s env d (T.Named n) u is h =
-    let a = then_ok (named_type s env d n) _ u h in
-    subst (UseIs types labels) (ok_same a.given.0 u a.rest) (named_type_is types labels s env d n a.given is a.first)
+pub tag_use_is : (types : List Shape) (labels : List (ℕ × ℤ)) (s : Names) (d : ℕ) (t : TagTree) (u : Use)
+    → ScopeIs types labels s → tag_use s d t ≡ Ok u → UseIs types labels u
+tag_use_is types labels s d (T.Int i) u is h = subst (UseIs types labels) (ok_same (Number (kind_of i)) u h) tt
+tag_use_is types labels s d T.Char u is h = subst (UseIs types labels) (ok_same _ u h) tt
+tag_use_is types labels s d T.Boolean u is h = subst (UseIs types labels) (ok_same _ u h) tt
+tag_use_is types labels s d (T.Named n) u is h =
+    let a = then_ok (named_type s d n) _ u h in
+    subst (UseIs types labels) (ok_same a.given.0 u a.rest) (named_type_is types labels s d n a.given is a.first)
 
 pub tag_is : (t : Tag) → is_no_tag t ≡ false → is_other t ≡ false
 tag_is (tag.Number k) h = refl
@@ -48,32 +48,32 @@ tag_is tag.Other h = absurd cc
 
 -- ---- labels
 
-label_longer : (s : Names) (labels : List (ℕ × ℤ)) (t : Tag) (env : List (List ℕ)) (d : ℕ) (ls out : Labels) (x : LabelTree)
-    → NumbersAre labels t ls.numbers → label_on s labels t env d ls x ≡ Ok out → Longer labels t ls.numbers out.numbers
-label_longer s labels t env d ls out (L.Case e) are h =
-    let a = then_ok (number s env d e) _ out h in
+label_longer : (s : Names) (labels : List (ℕ × ℤ)) (t : Tag) (d : ℕ) (ls out : Labels) (x : LabelTree)
+    → NumbersAre labels t ls.numbers → label_on s labels t d ls x ≡ Ok out → Longer labels t ls.numbers out.numbers
+label_longer s labels t d ls out (L.Case e) are h =
+    let a = then_ok (number s d e) _ out h in
     let b = then_ok (numbered labels t d ls.numbers a.given) _ out a.rest in
     let made : Labels = record ls { numbers = b.given } in
     subst
     (λ (z : Labels).
     Longer labels t ls.numbers z.numbers) (ok_same made out b.rest) (number_added labels t d ls.numbers b.given a.given are b.first).0
-label_longer s labels t env d ls out L.Default are h =
+label_longer s labels t d ls out L.Default are h =
     let a = then_ok (refused Label d ls.default) _ out h in
     let made : Labels = record ls { default = true } in
     subst
     (λ (z : Labels).
     Longer labels t ls.numbers z.numbers) (ok_same made out a.rest) (record { more = []; grown = nothing_more ls.numbers; are = are })
 
-labels_longer : (s : Names) (labels : List (ℕ × ℤ)) (t : Tag) (env : List (List ℕ)) (d : ℕ) (ls out : Labels) (xs : List LabelTree)
-    → NumbersAre labels t ls.numbers → labels_on s labels t env d ls xs ≡ Ok out → Longer labels t ls.numbers out.numbers
-labels_longer s labels t env d ls out [] are h =
+labels_longer : (s : Names) (labels : List (ℕ × ℤ)) (t : Tag) (d : ℕ) (ls out : Labels) (xs : List LabelTree)
+    → NumbersAre labels t ls.numbers → labels_on s labels t d ls xs ≡ Ok out → Longer labels t ls.numbers out.numbers
+labels_longer s labels t d ls out [] are h =
     subst
     (λ (z : Labels).
     Longer labels t ls.numbers z.numbers) (ok_same ls out h) (record { more = []; grown = nothing_more ls.numbers; are = are })
-labels_longer s labels t env d ls out (x ∷ xs) are h =
-    let a = then_ok (label_on s labels t env d ls x) _ out h in
-    let one = label_longer s labels t env d ls a.given x are a.first in
-    let rest = labels_longer s labels t env d a.given out xs one.are a.rest in
+labels_longer s labels t d ls out (x ∷ xs) are h =
+    let a = then_ok (label_on s labels t d ls x) _ out h in
+    let one = label_longer s labels t d ls a.given x are a.first in
+    let rest = labels_longer s labels t d a.given out xs one.are a.rest in
     record {
       more = one.more ++ rest.more;
       grown = rest.grown
@@ -98,16 +98,16 @@ pub record CasesAre (types : List Shape) (labels : List (ℕ × ℤ)) (t : Tag) 
   pub choices : ArmsAre types labels t cs.numbers cs.arms
   pub rest : OtherGood types cs.other
 
-case_is : (types : List Shape) (labels : List (ℕ × ℤ)) (t : Tag) (env : List (List ℕ)) (d : ℕ) (cs out : Cases) (c : Case)
-    → CasesAre types labels t cs → case_on labels t env d cs c ≡ Ok out → CasesAre types labels t out
-case_is types labels t env d cs out c are h =
+case_is : (types : List Shape) (labels : List (ℕ × ℤ)) (t : Tag) (d : ℕ) (cs out : Cases) (c : Case)
+    → CasesAre types labels t cs → case_on labels t d cs c ≡ Ok out → CasesAre types labels t out
+case_is types labels t d cs out c are h =
     let before : Labels = record { numbers = cs.numbers; default = is_some cs.other } in
-    let a = then_ok (labels_on cs.names labels t env d before c.labels) _ out h in
-    let b = then_ok (type_form cs.names env d c.of.0 c.of.1) _ out a.rest in
-    let e = then_ok (placed_on env d cs.names c.declarator) _ out b.rest in
-    let more = labels_longer cs.names labels t env d before a.given c.labels are.choices.numbers a.first in
-    let form = form_is types labels cs.names env d c.of.0 c.of.1 b.given are.standing b.first in
-    let one = placed_is types labels env d cs.names c.declarator e.given are.standing e.first in
+    let a = then_ok (labels_on cs.names labels t d before c.labels) _ out h in
+    let b = then_ok (type_form cs.names d c.of.0 c.of.1) _ out a.rest in
+    let e = then_ok (placed_on d cs.names c.declarator) _ out b.rest in
+    let more = labels_longer cs.names labels t d before a.given c.labels are.choices.numbers a.first in
+    let form = form_is types labels cs.names d c.of.0 c.of.1 b.given are.standing b.first in
+    let one = placed_is types labels d cs.names c.declarator e.given are.standing e.first in
     let shape = form_shape b.given e.given.1 in
     let sound : good types shape ≡ true = or_void_true shape (is_sound_type types (length types) shape)
     (form_sound types labels b.given e.given.1 form one.lengths) in
@@ -125,12 +125,12 @@ case_is types labels t env d cs out c are h =
       rest = other_good types a.given.default cs.other shape are.rest sound;
     })
 
-pub cases_are : (types : List Shape) (labels : List (ℕ × ℤ)) (t : Tag) (env : List (List ℕ)) (d : ℕ) (cs out : Cases) (list : List Case)
-    → CasesAre types labels t cs → cases_on labels t env d cs list ≡ Ok out → CasesAre types labels t out
-cases_are types labels t env d cs out [] are h = subst (CasesAre types labels t) (ok_same cs out h) are
-cases_are types labels t env d cs out (c ∷ list) are h =
-    let a = then_ok (case_on labels t env d cs c) _ out h in
-    cases_are types labels t env d a.given out list (case_is types labels t env d cs a.given c are a.first) a.rest
+pub cases_are : (types : List Shape) (labels : List (ℕ × ℤ)) (t : Tag) (d : ℕ) (cs out : Cases) (list : List Case)
+    → CasesAre types labels t cs → cases_on labels t d cs list ≡ Ok out → CasesAre types labels t out
+cases_are types labels t d cs out [] are h = subst (CasesAre types labels t) (ok_same cs out h) are
+cases_are types labels t d cs out (c ∷ list) are h =
+    let a = then_ok (case_on labels t d cs c) _ out h in
+    cases_are types labels t d a.given out list (case_is types labels t d cs a.given c are a.first) a.rest
 
 -- ---- the union
 

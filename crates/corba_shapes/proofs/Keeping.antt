@@ -35,8 +35,7 @@ use Rattle.corba_scopes.specs.declared.meanings.Meaning.{Meaning}
 use Rattle.corba_scopes.specs.declared.meanings.Meaning.TheVariants as M
 use Rattle.corba_scopes.specs.declared.meanings.Constant.{Constant}
 use Rattle.corba_scopes.specs.declared.meanings.Constant.TheVariants as V
-use Rattle.corba_scopes.specs.Names.{Names, clash, refused_by, declared_on, lower_of}
-use Rattle.corba_scopes.specs.Around.{innermost, inside}
+use Rattle.corba_scopes.specs.Names.{Names, here, entered, left, clash, refused_by, declared_on, lower_of}
 use Rattle.corba_scopes.specs.Consts.{constant, meaning_of_constant}
 use Rattle.corba_shapes.specs.declared.forms.Form.{Form}
 use Rattle.corba_shapes.specs.Forms.{type_form, form_shape, form_tag, form_text}
@@ -92,14 +91,14 @@ pub record TypedIs (s : State) (t : Tag) (out : State) : Type 0 where
   pub used : UseIs (shapes_of out) out.labels (use_.Declared (length s.types) t)
   pub forms : (f : Form) → FormIs (shapes_of s) s.labels f → FormIs (shapes_of out) out.labels f
 
-typed_is : (d : ℕ) (env : List (List ℕ)) (name : List ℕ) (new : Shape) (t : Tag) (text : Option Count) (s out : State) → Takes s new t
-    → with_type d env name new t text s ≡ Ok out → TypedIs s t out
-typed_is d env name new t text s out take h =
+typed_is : (d : ℕ) (name : List ℕ) (new : Shape) (t : Tag) (text : Option Count) (s out : State) → Takes s new t
+    → with_type d name new t text s ≡ Ok out → TypedIs s t out
+typed_is d name new t text s out take h =
     let old : List Shape = shapes_of s in
     let m : Meaning = M.Type (use_.Declared (length s.types) t) text in
-    let a = then_ok (declared_on d s.names (innermost env) name m) _ out h in
-    let one = declared_ok d s.names (innermost env) name m a.given a.first in
-    let pair : List ℕ × Shape = (innermost env ++ name, new) in
+    let a = then_ok (declared_on d s.names name m) _ out h in
+    let one = declared_ok d s.names name m a.given a.first in
+    let pair : List ℕ × Shape = (here s.names ++ name, new) in
     let made : State = record s { names = a.given; types = s.types ++ pair ∷ [] } in
     let grown : shapes_of made ≡ old ++ new ∷ [] = append_map (λ (t : List ℕ × Shape). t.1) s.types pair in
     let count : length (old ++ new ∷ []) ≡ length old + 1 = length-append old (new ∷ []) in
@@ -107,9 +106,9 @@ typed_is d env name new t text s out take h =
     let below : length s.types < length (old ++ new ∷ []) = omega (arith, count, place) in
     let tagged : TagIs (old ++ new ∷ []) s.labels (length s.types) t =
     subst (λ z. TagIs (old ++ new ∷ []) s.labels z t) (sym place) take.tag in
-    let whole : ScopeIs (old ++ new ∷ []) s.labels a.given = declared_is (old ++ new ∷ []) s.labels s.names (innermost env) name m a.given
+    let whole : ScopeIs (old ++ new ∷ []) s.labels a.given = declared_is (old ++ new ∷ []) s.labels s.names name m a.given
     take.scope (below, tagged) one in
-    let here : StateIs made = record {
+    let stands : StateIs made = record {
       types = subst (λ z. are_sound_types z 0 z ≡ true) (sym grown) (types_push old new take.types take.sound);
       scope = subst (λ z. ScopeIs z s.labels a.given) (sym grown) whole;
       labels = λ k n le. take.labels k n (let le' = subst (λ z. length z ≤ k) grown le in omega (arith, le', count));
@@ -120,7 +119,7 @@ typed_is d env name new t text s out take h =
           (raises_grow (length old) (length (old ++ new ∷ [])) s.exceptions (omega (arith, count)) take.exceptions);
     } in
     subst (TypedIs s t) (ok_same made out a.rest) (record {
-      is = here;
+      is = stands;
       used = subst (λ z. UseIs z s.labels (use_.Declared (length s.types) t)) (sym grown) (below, tagged);
       forms = λ f is. subst (λ z. FormIs z s.labels f) (sym grown) (form_grow old (new ∷ []) s.labels f is);
     })
@@ -139,61 +138,62 @@ takes s new t is sound tagged = record {
 
 -- ---- structs and exceptions
 
-no_fields : (s : State) (env : List (List ℕ)) → StateIs s → BodyIs (shapes_of s) s.labels env (record { names = s.names; fields = [] })
-no_fields s env is = record { scope = is.scope; are = record { different = refl; sound = refl }; plain = refl; fresh = λ n h. refl }
+no_fields : (s : State) (name : List ℕ) → StateIs s
+    → BodyIs (shapes_of s) s.labels (record { names = entered name s.names; fields = [] })
+no_fields s name is = record { scope = is.scope; are = record { different = refl; sound = refl }; plain = refl; fresh = λ n h. refl }
 
-pub struct_is : (d : ℕ) (env : List (List ℕ)) (s out : State) (t : Struct) → StateIs s → has_field t.members ≡ true → struct_on d env s t
+pub struct_is : (d : ℕ) (s out : State) (t : Struct) → StateIs s → has_field t.members ≡ true → struct_on d s t
     ≡ Ok out → TypedIs s tag.Other out
-struct_is d env s out t is some h =
+struct_is d s out t is some h =
     let name = t.name.name in
-    let none : Body = record { names = s.names; fields = [] } in
-    let a = then_ok (refused_by d (clash s.names (innermost env) name)) _ out h in
-    let b = then_ok (members_on (inside name env) d none t.members) _ out a.rest in
-    let are = members_are (shapes_of s) s.labels (inside name env) d none b.given t.members (no_fields s (inside name env) is) b.first in
-    let mid : State = record s { names = b.given.names } in
+    let none : Body = record { names = entered name s.names; fields = [] } in
+    let a = then_ok (refused_by d (clash s.names name)) _ out h in
+    let b = then_ok (members_on d none t.members) _ out a.rest in
+    let are = members_are (shapes_of s) s.labels d none b.given t.members (no_fields s name is) b.first in
+    let mid : State = record s { names = left b.given.names } in
     let new = structure (members_of b.given.fields) in
-    let take = takes mid new tag.Other (names_is s b.given.names is are.0.scope)
+    let take = takes mid new tag.Other (names_is s (left b.given.names) is are.0.scope)
     (struct_sound (shapes_of s) b.given.fields are.0.are (are.2 some)) tt in
-    let one = typed_is d env name new tag.Other None mid out take b.rest in
+    let one = typed_is d name new tag.Other None mid out take b.rest in
     record { is = one.is; used = one.used; forms = one.forms }
 
-pub exception_is : (d : ℕ) (env : List (List ℕ)) (s out : State) (e : Exception) → StateIs s → exception_on d env s e ≡ Ok out → StateIs out
-exception_is d env s out e is h =
+pub exception_is : (d : ℕ) (s out : State) (e : Exception) → StateIs s → exception_on d s e ≡ Ok out → StateIs out
+exception_is d s out e is h =
     let name = e.name.name in
-    let none : Body = record { names = s.names; fields = [] } in
+    let none : Body = record { names = entered name s.names; fields = [] } in
     let m : Meaning = M.Exception (length s.exceptions) in
-    let a = then_ok (refused_by d (clash s.names (innermost env) name)) _ out h in
-    let b = then_ok (members_on (inside name env) d none e.members) _ out a.rest in
-    let c = then_ok (declared_on d b.given.names (innermost env) name m) _ out b.rest in
-    let are = (members_are (shapes_of s) s.labels (inside name env) d none b.given e.members (no_fields s (inside name env) is) b.first).0
+    let a = then_ok (refused_by d (clash s.names name)) _ out h in
+    let b = then_ok (members_on d none e.members) _ out a.rest in
+    let c = then_ok (declared_on d (left b.given.names) name m) _ out b.rest in
+    let are = (members_are (shapes_of s) s.labels d none b.given e.members (no_fields s name is) b.first).0
     in
-    let one = declared_ok d b.given.names (innermost env) name m c.given c.first in
-    let last = raised (innermost env ++ name) (members_of b.given.fields) in
+    let one = declared_ok d (left b.given.names) name m c.given c.first in
+    let last = raised (here c.given ++ name) (members_of b.given.fields) in
     let made : State = record s { names = c.given; exceptions = s.exceptions ++ last ∷ [] } in
     let sound : RaiseIs (length (shapes_of s)) last =
     record { different = ap are_distinct (names_are b.given.fields) ∙ are.are.different; plain = are.plain } in
     subst StateIs (ok_same made out c.rest) (record {
       types = is.types;
-      scope = declared_is (shapes_of s) s.labels b.given.names (innermost env) name m c.given are.scope tt one;
+      scope = declared_is (shapes_of s) s.labels (left b.given.names) name m c.given are.scope tt one;
       labels = is.labels;
       exceptions = raises_push (length (shapes_of s)) s.exceptions last is.exceptions sound;
     })
 
 -- ---- enums
 
-items_start : (s : State) (scope : List ℕ) (k : ℕ) → StateIs s → k ≡ length (shapes_of s)
-    → ItemsAre (shapes_of s) s.labels scope k (length s.labels) (record { names = s.names; labels = s.labels; items = [] })
-items_start s scope k is place = record {
+items_start : (s : State) (k : ℕ) → StateIs s → k ≡ length (shapes_of s)
+    → ItemsAre (shapes_of s) s.labels k (length s.labels) (record { names = s.names; labels = s.labels; items = [] })
+items_start s k is place = record {
   standing = is.scope;
   labelling = record { own = λ n. is.labels k n (omega (arith, place)); others = λ j n ne. refl; count = omega arith; few = omega arith };
   different = refl;
   fresh = λ n h. refl;
 }
 
-enum_takes : (s : State) (scope : List ℕ) (k : ℕ) (r : Items) → StateIs s → k ≡ length (shapes_of s)
-    → ItemsAre (shapes_of s) s.labels scope k (length s.labels) r → is_some_list r.items ≡ true
+enum_takes : (s : State) (k : ℕ) (r : Items) → StateIs s → k ≡ length (shapes_of s)
+    → ItemsAre (shapes_of s) s.labels k (length s.labels) r → is_some_list r.items ≡ true
     → Takes (record s { names = r.names; labels = r.labels }) (enumeration r.items) (tag.Enum k)
-enum_takes s scope k r is place are some =
+enum_takes s k r is place are some =
     let new = enumeration r.items in
     let old = shapes_of s in
     let fewer : FewerBelow (length old) s.labels r.labels =
@@ -214,36 +214,35 @@ enum_takes s scope k r is place are some =
       exceptions = is.exceptions;
     }
 
-pub enum_is : (d : ℕ) (env : List (List ℕ)) (s out : State) (e : Enum) → StateIs s → is_some_list e.items ≡ true → enum_on d env s e
+pub enum_is : (d : ℕ) (s out : State) (e : Enum) → StateIs s → is_some_list e.items ≡ true → enum_on d s e
     ≡ Ok out
     → StateIs out × UseIs (shapes_of out) out.labels (use_.Declared (length s.types) (tag.Enum (length s.types)))
-enum_is d env s out e is some h =
+enum_is d s out e is some h =
     let name = e.name.name in
-    let scope = innermost env in
     let k = length s.types in
     let place : k ≡ length (shapes_of s) = sym (length-map s.types (λ t. t.1)) in
     let none : Items = record { names = s.names; labels = s.labels; items = [] } in
-    let a = then_ok (refused_by d (lower_of (clash s.names scope name) (item_clash name e.items))) _ out h in
-    let b = then_ok (items_on d scope k (length s.labels) none e.items) _ out a.rest in
-    let are = items_are (shapes_of s) s.labels d scope k (length s.labels) none b.given e.items (items_start s scope k is place) b.first in
+    let a = then_ok (refused_by d (lower_of (clash s.names name) (item_clash name e.items))) _ out h in
+    let b = then_ok (items_on d k (length s.labels) none e.items) _ out a.rest in
+    let are = items_are (shapes_of s) s.labels d k (length s.labels) none b.given e.items (items_start s k is place) b.first in
     let mid : State = record s { names = b.given.names; labels = b.given.labels } in
-    let one = typed_is d env name (enumeration b.given.items) (tag.Enum k) None mid out
-    (enum_takes s scope k b.given is place are.0 (are.2 some)) b.rest in
+    let one = typed_is d name (enumeration b.given.items) (tag.Enum k) None mid out
+    (enum_takes s k b.given is place are.0 (are.2 some)) b.rest in
     (one.is, one.used)
 
 -- ---- unions
 
-pub union_is : (d : ℕ) (env : List (List ℕ)) (s out : State) (u : Union) → StateIs s → union_on d env s u ≡ Ok out → TypedIs s tag.Other out
-union_is d env s out u is h =
+pub union_is : (d : ℕ) (s out : State) (u : Union) → StateIs s → union_on d s u ≡ Ok out → TypedIs s tag.Other out
+union_is d s out u is h =
     let name = u.name.name in
-    let inner = inside name env in
-    let none : Cases = record { names = s.names; numbers = []; arms = []; other = None } in
-    let a = then_ok (refused_by d (clash s.names (innermost env) name)) _ out h in
-    let b = then_ok (tag_use s.names inner d u.tag) _ out a.rest in
+    let inner = entered name s.names in
+    let none : Cases = record { names = inner; numbers = []; arms = []; other = None } in
+    let a = then_ok (refused_by d (clash s.names name)) _ out h in
+    let b = then_ok (tag_use inner d u.tag) _ out a.rest in
     let c = then_ok (refused NotType d (is_no_tag (tag_of_use b.given))) _ out b.rest in
-    let e = then_ok (cases_on s.labels (tag_of_use b.given) inner d none u.cases) _ out c.rest in
+    let e = then_ok (cases_on s.labels (tag_of_use b.given) d none u.cases) _ out c.rest in
     let fit = refused_ok NotType d (is_no_tag (tag_of_use b.given)) c.given c.first in
-    let used = tag_use_is (shapes_of s) s.labels s.names inner d u.tag b.given is.scope b.first in
+    let used = tag_use_is (shapes_of s) s.labels inner d u.tag b.given is.scope b.first in
     let first : CasesAre (shapes_of s) s.labels (tag_of_use b.given) none =
     record {
       standing = is.scope;
@@ -251,35 +250,35 @@ union_is d env s out u is h =
           record { numbers = record { different = refl; few = omega arith; all = refl }; arms = refl; sound = refl };
       rest = refl;
     } in
-    let are = cases_are (shapes_of s) s.labels (tag_of_use b.given) inner d none e.given u.cases first e.first in
-    let mid : State = record s { names = e.given.names } in
+    let are = cases_are (shapes_of s) s.labels (tag_of_use b.given) d none e.given u.cases first e.first in
+    let mid : State = record s { names = left e.given.names } in
     let new = union_shape b.given e.given in
-    let take = takes mid new tag.Other (names_is s e.given.names is are.standing)
+    let take = takes mid new tag.Other (names_is s (left e.given.names) is are.standing)
     (union_sound (shapes_of s) s.labels b.given e.given used fit are) tt in
-    let one = typed_is d env name new tag.Other None mid out take e.rest in
+    let one = typed_is d name new tag.Other None mid out take e.rest in
     record { is = one.is; used = one.used; forms = one.forms }
 
 -- ---- typedefs
 
-alias_is : (d : ℕ) (env : List (List ℕ)) (f : Form) (s out : State) (x : Declarator) → StateIs s → FormIs (shapes_of s) s.labels f
-    → alias_on d env f s x ≡ Ok out → StateIs out × FormIs (shapes_of out) out.labels f
-alias_is d env f s out x is form h =
+alias_is : (d : ℕ) (f : Form) (s out : State) (x : Declarator) → StateIs s → FormIs (shapes_of s) s.labels f
+    → alias_on d f s x ≡ Ok out → StateIs out × FormIs (shapes_of out) out.labels f
+alias_is d f s out x is form h =
     let name = x.name.name in
-    let a = then_ok (refused_by d (clash s.names (innermost env) name)) _ out h in
-    let b = then_ok (lengths_on s.names env d [] x.dimensions) _ out a.rest in
-    let are = lengths_are s.names env d [] x.dimensions b.given refl b.first in
+    let a = then_ok (refused_by d (clash s.names name)) _ out h in
+    let b = then_ok (lengths_on s.names d [] x.dimensions) _ out a.rest in
+    let are = lengths_are s.names d [] x.dimensions b.given refl b.first in
     let take = takes s (form_shape f b.given) (form_tag f b.given) is (form_sound (shapes_of s) s.labels f b.given form are)
     (form_tagged (shapes_of s) s.labels f b.given form) in
-    let one = typed_is d env name (form_shape f b.given) (form_tag f b.given) (form_text f b.given) s out take b.rest in
+    let one = typed_is d name (form_shape f b.given) (form_tag f b.given) (form_text f b.given) s out take b.rest in
     (one.is, one.forms f form)
 
-aliases_are : (d : ℕ) (env : List (List ℕ)) (f : Form) (s out : State) (xs : List Declarator) → StateIs s
-    → FormIs (shapes_of s) s.labels f → aliases_on d env f s xs ≡ Ok out → StateIs out
-aliases_are d env f s out [] is form h = subst StateIs (ok_same s out h) is
-aliases_are d env f s out (x ∷ xs) is form h =
-    let a = then_ok (alias_on d env f s x) _ out h in
-    let one = alias_is d env f s a.given x is form a.first in
-    aliases_are d env f a.given out xs one.0 one.1 a.rest
+aliases_are : (d : ℕ) (f : Form) (s out : State) (xs : List Declarator) → StateIs s
+    → FormIs (shapes_of s) s.labels f → aliases_on d f s xs ≡ Ok out → StateIs out
+aliases_are d f s out [] is form h = subst StateIs (ok_same s out h) is
+aliases_are d f s out (x ∷ xs) is form h =
+    let a = then_ok (alias_on d f s x) _ out h in
+    let one = alias_is d f s a.given x is form a.first in
+    aliases_are d f a.given out xs one.0 one.1 a.rest
 
 abbrev AliasedIs : State × Form → Type 0
 AliasedIs r = StateIs r.0 × FormIs (shapes_of r.0) r.0.labels r.1
@@ -289,32 +288,32 @@ next_is : (s made : State) (t : Tag) (r : State × Form) → (made, next_form s 
     → UseIs (shapes_of made) made.labels (use_.Declared (length s.types) t) → AliasedIs r
 next_is s made t r e is used = subst AliasedIs e (is, record { core = used; rows = refl })
 
-aliased_is : (d : ℕ) (env : List (List ℕ)) (s : State) (of : Aliased) (r : State × Form) → StateIs s → is_whole_aliased of ≡ true
-    → aliased_on d env s of ≡ Ok r → AliasedIs r
-aliased_is d env s (A.Type t) r is whole h =
-    let a = then_ok (type_form s.names env d t.0 t.1) _ r h in
+aliased_is : (d : ℕ) (s : State) (of : Aliased) (r : State × Form) → StateIs s → is_whole_aliased of ≡ true
+    → aliased_on d s of ≡ Ok r → AliasedIs r
+aliased_is d s (A.Type t) r is whole h =
+    let a = then_ok (type_form s.names d t.0 t.1) _ r h in
     let made : State × Form = (s, a.given) in
-    subst AliasedIs (ok_same made r a.rest) (is, form_is (shapes_of s) s.labels s.names env d t.0 t.1 a.given is.scope a.first)
-aliased_is d env s (A.Struct t) r is whole h =
-    let a = then_ok (struct_on d env s t) _ r h in
-    let one = struct_is d env s a.given t is whole a.first in
+    subst AliasedIs (ok_same made r a.rest) (is, form_is (shapes_of s) s.labels s.names d t.0 t.1 a.given is.scope a.first)
+aliased_is d s (A.Struct t) r is whole h =
+    let a = then_ok (struct_on d s t) _ r h in
+    let one = struct_is d s a.given t is whole a.first in
     next_is s a.given tag.Other r (ok_same (a.given, next_form s tag.Other) r a.rest) one.is one.used
-aliased_is d env s (A.Union u) r is whole h =
-    let a = then_ok (union_on d env s u) _ r h in
-    let one = union_is d env s a.given u is a.first in
+aliased_is d s (A.Union u) r is whole h =
+    let a = then_ok (union_on d s u) _ r h in
+    let one = union_is d s a.given u is a.first in
     next_is s a.given tag.Other r (ok_same (a.given, next_form s tag.Other) r a.rest) one.is one.used
-aliased_is d env s (A.Enum e) r is whole h =
-    let a = then_ok (enum_on d env s e) _ r h in
-    let one = enum_is d env s a.given e is whole a.first in
+aliased_is d s (A.Enum e) r is whole h =
+    let a = then_ok (enum_on d s e) _ r h in
+    let one = enum_is d s a.given e is whole a.first in
     let t = tag.Enum (length s.types) in
     next_is s a.given t r (ok_same (a.given, next_form s t) r a.rest) one.0 one.1
 
-typedef_is : (d : ℕ) (env : List (List ℕ)) (s out : State) (t : Typedef) → StateIs s → is_whole_aliased t.of ≡ true → typedef_on d env s t
+typedef_is : (d : ℕ) (s out : State) (t : Typedef) → StateIs s → is_whole_aliased t.of ≡ true → typedef_on d s t
     ≡ Ok out → StateIs out
-typedef_is d env s out t is whole h =
-    let a = then_ok (aliased_on d env s t.of) _ out h in
-    let one = aliased_is d env s t.of a.given is whole a.first in
-    aliases_are d env a.given.1 a.given.0 out t.declarators one.0 one.1 a.rest
+typedef_is d s out t is whole h =
+    let a = then_ok (aliased_on d s t.of) _ out h in
+    let one = aliased_is d s t.of a.given is whole a.first in
+    aliases_are d a.given.1 a.given.0 out t.declarators one.0 one.1 a.rest
 
 -- ---- constants
 
@@ -323,41 +322,41 @@ constant_means types labels (V.Number n) = tt
 constant_means types labels (V.Text n) = tt
 
 -- what a constant makes of a state: one more name, which stands for its value
-pub record ConstantIs (d : ℕ) (env : List (List ℕ)) (s out : State) (c : ConstantTree) : Type 0 where
+pub record ConstantIs (d : ℕ) (s out : State) (c : ConstantTree) : Type 0 where
   pub value : Constant
   pub names : Names
-  pub declared : declared_on d s.names (innermost env) c.name.name (meaning_of_constant value) ≡ Ok names
+  pub declared : declared_on d s.names c.name.name (meaning_of_constant value) ≡ Ok names
   pub made : record s { names = names } ≡ out
 
-pub constant_ok : (d : ℕ) (env : List (List ℕ)) (s out : State) (c : ConstantTree) → constant_on d env s c ≡ Ok out
-    → ConstantIs d env s out c
-constant_ok d env s out c h =
+pub constant_ok : (d : ℕ) (s out : State) (c : ConstantTree) → constant_on d s c ≡ Ok out
+    → ConstantIs d s out c
+constant_ok d s out c h =
     let name = c.name.name in
-    let a = then_ok (constant_core s.names env d c.of) _ out h in
+    let a = then_ok (constant_core s.names d c.of) _ out h in
     let b = then_ok (refused NotType d (is_no_constant a.given)) _ out a.rest in
-    let e = then_ok (refused_by d (clash s.names (innermost env) name)) _ out b.rest in
-    let f = then_ok (constant s.names env d c.value) _ out e.rest in
+    let e = then_ok (refused_by d (clash s.names name)) _ out b.rest in
+    let f = then_ok (constant s.names d c.value) _ out e.rest in
     let g = then_ok (refused Range d (not (fits s.labels a.given f.given))) _ out f.rest in
-    let i = then_ok (declared_on d s.names (innermost env) name (meaning_of_constant f.given)) _ out g.rest in
+    let i = then_ok (declared_on d s.names name (meaning_of_constant f.given)) _ out g.rest in
     record { value = f.given; names = i.given; declared = i.first; made = ok_same (record s { names = i.given }) out i.rest }
 
-constant_is : (d : ℕ) (env : List (List ℕ)) (s out : State) (c : ConstantTree) → StateIs s → constant_on d env s c ≡ Ok out → StateIs out
-constant_is d env s out c is h =
+constant_is : (d : ℕ) (s out : State) (c : ConstantTree) → StateIs s → constant_on d s c ≡ Ok out → StateIs out
+constant_is d s out c is h =
     let name = c.name.name in
-    let i = constant_ok d env s out c h in
+    let i = constant_ok d s out c h in
     let m = meaning_of_constant i.value in
-    let one = declared_ok d s.names (innermost env) name m i.names i.declared in
-    subst StateIs i.made (names_is s i.names is (declared_is (shapes_of s) s.labels s.names (innermost env) name m i.names is.scope
+    let one = declared_ok d s.names name m i.names i.declared in
+    subst StateIs i.made (names_is s i.names is (declared_is (shapes_of s) s.labels s.names name m i.names is.scope
     (constant_means (shapes_of s) s.labels i.value) one))
 
 -- ---- declarations
 
 -- a declaration keeps the types and exceptions sound
-pub declaration_is : (d : ℕ) (env : List (List ℕ)) (s out : State) (x : Declaration) → StateIs s → is_whole x ≡ true
-    → declaration_on d env s x ≡ Ok out → StateIs out
-declaration_is d env s out (D.Typedef t) is whole h = typedef_is d env s out t is whole h
-declaration_is d env s out (D.Struct t) is whole h = (struct_is d env s out t is whole h).is
-declaration_is d env s out (D.Union u) is whole h = (union_is d env s out u is h).is
-declaration_is d env s out (D.Enum e) is whole h = (enum_is d env s out e is whole h).0
-declaration_is d env s out (D.Constant c) is whole h = constant_is d env s out c is h
-declaration_is d env s out (D.Exception e) is whole h = exception_is d env s out e is h
+pub declaration_is : (d : ℕ) (s out : State) (x : Declaration) → StateIs s → is_whole x ≡ true
+    → declaration_on d s x ≡ Ok out → StateIs out
+declaration_is d s out (D.Typedef t) is whole h = typedef_is d s out t is whole h
+declaration_is d s out (D.Struct t) is whole h = (struct_is d s out t is whole h).is
+declaration_is d s out (D.Union u) is whole h = (union_is d s out u is h).is
+declaration_is d s out (D.Enum e) is whole h = (enum_is d s out e is whole h).0
+declaration_is d s out (D.Constant c) is whole h = constant_is d s out c is h
+declaration_is d s out (D.Exception e) is whole h = exception_is d s out e is h

@@ -19,7 +19,7 @@ use Rattle.corba_decls.specs.declared.decl_tree.Label.TheVariants as L
 use Rattle.corba_decls.specs.declared.decl_tree.Aliased.TheVariants as A
 use Rattle.corba_decls.specs.declared.decl_tree.ConstantType.TheVariants as C
 use Rattle.corba_decls.specs.declared.decl_tree.Declaration.TheVariants as D
-use Rattle.corba_scopes.specs.Around.{file, inside}
+use Rattle.corba_scopes.specs.Names.{entered}
 use Rattle.corba_shapes.specs.State.{State, start}
 use Rattle.corba_shapes.specs.Declarations.{declaration_on}
 
@@ -42,36 +42,36 @@ exceptions_of (Err e) = []
 
 -- enum hue { red, green };
 row1 : types_of
-    (declaration_on 1 file start
+    (declaration_on 1 start
     (D.Enum (record { name = called (codes "hue"); items = called (codes "red") ∷ called (codes "green") ∷ [] })))
     ≡ (codes "hue", enumeration ((codes "red", pos 0) ∷ (codes "green", pos 1) ∷ [])) ∷ []
 row1 = refl
 
 -- enum a { A, a };
-row2 : declaration_on 1 file start (D.Enum (record { name = called (codes "a"); items = called (codes "A") ∷ called (codes "a") ∷ [] }))
+row2 : declaration_on 1 start (D.Enum (record { name = called (codes "a"); items = called (codes "A") ∷ called (codes "a") ∷ [] }))
     ≡ fault fault_.Twice 1
 row2 = refl
 
 -- enum a { A };
-row3 : declaration_on 1 file start (D.Enum (record { name = called (codes "a"); items = called (codes "A") ∷ [] }))
+row3 : declaration_on 1 start (D.Enum (record { name = called (codes "a"); items = called (codes "A") ∷ [] }))
     ≡ fault fault_.CaseClash 1
 row3 = refl
 
 -- module M { exception Bad { long why; }; };
 row4 : exceptions_of
-    (declaration_on 2 (inside (codes "M") file) start
+    (declaration_on 2 (record start { names = entered (codes "M") start.names })
     (D.Exception (record { name = called (codes "Bad"); members = record { of = long; declarators = plain (codes "why") ∷ [] } ∷ [] })))
     ≡ record { name = codes "M.Bad"; id = codes "IDL:M/Bad:1.0"; members = member (codes "why") (number kind.I32) no_more } ∷ []
 row4 = refl
 
 -- const octet X = 256;
-row5 : declaration_on 1 file start (D.Constant (record { of = C.Octet; name = called (codes "X"); value = leaf (E.Number (pos 256)) }))
+row5 : declaration_on 1 start (D.Constant (record { of = C.Octet; name = called (codes "X"); value = leaf (E.Number (pos 256)) }))
     ≡ fault fault_.Range 1
 row5 = refl
 
 -- union u switch (boolean) { case TRUE: long a; };
 row6 : types_of
-    (declaration_on 1 file start
+    (declaration_on 1 start
     (D.Union
     (record {
       name = called (codes "u");
@@ -83,7 +83,7 @@ row6 : types_of
 row6 = refl
 
 -- typedef sequence<string<4>, 2> t[3];
-row7 : types_of (declaration_on 1 file start (D.Typedef (record {
+row7 : types_of (declaration_on 1 start (D.Typedef (record {
   of = A.Type (Some (leaf (E.Number (pos 2))) ∷ [], B.Text (Some (leaf (E.Number (pos 4)))));
   declarators = record { name = called (codes "t"); dimensions = record { length = leaf (E.Number (pos 3)) } ∷ [] } ∷ [];
 }))) ≡ (codes "t", array (array (text (AtMost 4)) (AtMost 2)) (Exactly 3)) ∷ []

@@ -1,5 +1,5 @@
 -- What the names of a file stand for, over the types so far.
-use Rattle.std.proofs.Common.{◌≡◌, ℕ, ℤ, Bool, true, false, List, [], ◌∷◌, ◌++◌, length, Option, Some, None, refl, ap, subst, if◌then◌else◌}
+use Rattle.std.proofs.Common.{◌≡◌, ℕ, ℤ, Bool, true, false, List, [], ◌∷◌, ◌++◌, length, Option, Some, refl, ap, subst, if◌then◌else◌}
 use Rattle.std.specs.Prelude.{Ok}
 use Rattle.std.specs.Str.{bytes_eq}
 use Rattle.std.proofs.lemmas.Bool.{or_parts, or_from}
@@ -12,7 +12,7 @@ use Rattle.idl_names.proofs.Standing.{UseIs, FewerBelow, use_grow}
 use Rattle.corba_scopes.specs.declared.meanings.Meaning.{Meaning}
 use Rattle.corba_scopes.specs.declared.meanings.Meaning.TheVariants as M
 use Rattle.idl_names.specs.Names.{is_declared}
-use Rattle.corba_scopes.specs.Names.{Names, Meanings, clash, declared, declared_on, refused_by}
+use Rattle.corba_scopes.specs.Names.{Names, Meanings, here, clash, declared, declared_on, refused_by}
 use Rattle.corba_scopes.proofs.Standing.{AllMeanings, all_follow, all_declared}
 
 -- a type that a name stands for is one of those so far
@@ -45,25 +45,25 @@ not_refused d true o x h = absurd cc
 not_refused d false o x h = refl
 
 -- a name that is not refused is not declared
-pub is_new : (d : ℕ) (s : Names) (scope name : List ℕ) (x : Unit {0}) → refused_by d (clash s scope name) ≡ Ok x
-    → is_declared (scope ++ name) s.meanings ≡ false
-is_new d s scope name x h = not_refused d (is_declared (scope ++ name) s.meanings) _ x h
+pub is_new : (d : ℕ) (s : Names) (name : List ℕ) (x : Unit {0}) → refused_by d (clash s name) ≡ Ok x
+    → is_declared (here s ++ name) s.meanings ≡ false
+is_new d s name x h = not_refused d (is_declared (here s ++ name) s.meanings) _ x h
 
 -- what a declaration makes of the names
-pub record Declared (s : Names) (scope name : List ℕ) (m : Meaning) (out : Names) : Type 0 where
-  pub new : is_declared (scope ++ name) s.meanings ≡ false
-  pub same : declared scope name m s ≡ out
+pub record Declared (s : Names) (name : List ℕ) (m : Meaning) (out : Names) : Type 0 where
+  pub new : is_declared (here s ++ name) s.meanings ≡ false
+  pub same : declared name m s ≡ out
 
-pub declared_ok : (d : ℕ) (s : Names) (scope name : List ℕ) (m : Meaning) (out : Names) → declared_on d s scope name m ≡ Ok out
-    → Declared s scope name m out
-declared_ok d s scope name m out h =
-    let a = then_ok (refused_by d (clash s scope name)) _ out h in
-    record { new = is_new d s scope name a.given a.first; same = ok_same (declared scope name m s) out a.rest }
+pub declared_ok : (d : ℕ) (s : Names) (name : List ℕ) (m : Meaning) (out : Names) → declared_on d s name m ≡ Ok out
+    → Declared s name m out
+declared_ok d s name m out h =
+    let a = then_ok (refused_by d (clash s name)) _ out h in
+    record { new = is_new d s name a.given a.first; same = ok_same (declared name m s) out a.rest }
 
-pub declared_is : (types : List Shape) (labels : List (ℕ × ℤ)) (s : Names) (scope name : List ℕ) (m : Meaning) (out : Names)
-    → ScopeIs types labels s → MeaningIs types labels m → Declared s scope name m out → ScopeIs types labels out
-declared_is types labels s scope name m out is means h =
-    subst (ScopeIs types labels) h.same (all_declared (MeaningIs types labels) scope name m s is means)
+pub declared_is : (types : List Shape) (labels : List (ℕ × ℤ)) (s : Names) (name : List ℕ) (m : Meaning) (out : Names)
+    → ScopeIs types labels s → MeaningIs types labels m → Declared s name m out → ScopeIs types labels out
+declared_is types labels s name m out is means h =
+    subst (ScopeIs types labels) h.same (all_declared (MeaningIs types labels) name m s is means)
 
 -- ---- what is not declared
 

@@ -14,7 +14,6 @@ use Rattle.corba_decls.specs.declared.decl_tree.Constant.{Constant as ConstantTr
 use Rattle.corba_scopes.specs.declared.meanings.Constant.{Constant}
 use Rattle.corba_scopes.specs.declared.meanings.Constant.TheVariants as V
 use Rattle.corba_scopes.specs.Names.{Names, clash, refused_by, declared_on}
-use Rattle.corba_scopes.specs.Around.{innermost}
 use Rattle.corba_scopes.specs.Consts.{constant, meaning_of_constant}
 use Rattle.corba_shapes.specs.declared.forms.Core.{Core}
 use Rattle.corba_shapes.specs.declared.forms.Core.TheVariants as K
@@ -22,13 +21,13 @@ use Rattle.corba_shapes.specs.State.{State}
 use Rattle.corba_shapes.specs.Forms.{kind_of, number_core, named_core, core_tag, core_text}
 
 -- the type of a constant
-abbrev pub constant_core : Names → List (List ℕ) → ℕ → ConstantType → Answer Core
-constant_core s env d (C.Int i) = Ok (number_core (kind_of i))
-constant_core s env d C.Char = Ok (number_core kind.Char)
-constant_core s env d C.Boolean = Ok (number_core kind.Bool)
-constant_core s env d C.Octet = Ok (number_core kind.Octet)
-constant_core s env d C.Text = Ok (K.Text Any)
-constant_core s env d (C.Named n) = named_core s env d n
+abbrev pub constant_core : Names → ℕ → ConstantType → Answer Core
+constant_core s d (C.Int i) = Ok (number_core (kind_of i))
+constant_core s d C.Char = Ok (number_core kind.Char)
+constant_core s d C.Boolean = Ok (number_core kind.Bool)
+constant_core s d C.Octet = Ok (number_core kind.Octet)
+constant_core s d C.Text = Ok (K.Text Any)
+constant_core s d (C.Named n) = named_core s d n
 
 -- a type that no constant has: it is not a number, an enum or a string
 abbrev pub is_no_constant : Core → Bool
@@ -51,12 +50,12 @@ fits labels c (V.Number n) = is_of labels (core_tag c) n
 fits labels c (V.Text n) = is_text (core_text c) n
 
 -- a name with the value of an expression; it is tested where it is, and declared after its value
-abbrev pub constant_on : ℕ → List (List ℕ) → State → ConstantTree → Answer State
-constant_on d env s c =
-    and_then (constant_core s.names env d c.of) (λ t.
+abbrev pub constant_on : ℕ → State → ConstantTree → Answer State
+constant_on d s c =
+    and_then (constant_core s.names d c.of) (λ t.
     and_then (refused NotType d (is_no_constant t)) (λ _.
-    and_then (refused_by d (clash s.names (innermost env) c.name.name)) (λ _.
-    and_then (constant s.names env d c.value) (λ v.
+    and_then (refused_by d (clash s.names c.name.name)) (λ _.
+    and_then (constant s.names d c.value) (λ v.
     and_then (refused Range d (not (fits s.labels t v))) (λ _.
-    and_then (declared_on d s.names (innermost env) c.name.name (meaning_of_constant v)) (λ names.
+    and_then (declared_on d s.names c.name.name (meaning_of_constant v)) (λ names.
     Ok (record s { names = names })))))))

@@ -14,14 +14,14 @@ use Rattle.corba_shapes.specs.Unions.{union_on}
 use Rattle.corba_shapes.specs.Aliases.{typedef_on}
 use Rattle.corba_shapes.specs.Constants.{constant_on}
 
--- what is declared after a declaration, by its number and the scopes around it
-abbrev pub declaration_on : ℕ → List (List ℕ) → State → Declaration → Answer State
-declaration_on d env s (D.Typedef t) = typedef_on d env s t
-declaration_on d env s (D.Struct t) = struct_on d env s t
-declaration_on d env s (D.Union u) = union_on d env s u
-declaration_on d env s (D.Enum e) = enum_on d env s e
-declaration_on d env s (D.Constant c) = constant_on d env s c
-declaration_on d env s (D.Exception e) = exception_on d env s e
+-- what is declared after a declaration, by its number
+abbrev pub declaration_on : ℕ → State → Declaration → Answer State
+declaration_on d s (D.Typedef t) = typedef_on d s t
+declaration_on d s (D.Struct t) = struct_on d s t
+declaration_on d s (D.Union u) = union_on d s u
+declaration_on d s (D.Enum e) = enum_on d s e
+declaration_on d s (D.Constant c) = constant_on d s c
+declaration_on d s (D.Exception e) = exception_on d s e
 
 -- ---- what the grammar sees to
 

@@ -11,7 +11,6 @@ use Rattle.idl_exprs.specs.declared.tree.Identifier.{Identifier}
 use Rattle.corba_decls.specs.declared.member_tree.Enum.{Enum}
 use Rattle.corba_scopes.specs.declared.meanings.Meaning.TheVariants as M
 use Rattle.corba_scopes.specs.Names.{Names, lower, clash, lower_of, refused_by, declared_on}
-use Rattle.corba_scopes.specs.Around.{innermost}
 use Rattle.corba_shapes.specs.State.{State, with_type}
 
 -- why an enum may not have its name among its items: one of them has it, or has it but for the case of letters
@@ -28,17 +27,17 @@ pub record Items : Type 0 where
   pub items : List (List ℕ × ℤ)
 
 -- items of the k-th type after those before them: each is a constant, whose number is its place
-abbrev pub items_on : ℕ → List ℕ → ℕ → ℕ → Items → List Identifier → Answer Items
-items_on d scope k place s [] = Ok s
-items_on d scope k place s (i ∷ is) =
-    and_then (declared_on d s.names scope i.name (M.Number (pos (length s.items)))) (λ names.
+abbrev pub items_on : ℕ → ℕ → ℕ → Items → List Identifier → Answer Items
+items_on d k place s [] = Ok s
+items_on d k place s (i ∷ is) =
+    and_then (declared_on d s.names i.name (M.Number (pos (length s.items)))) (λ names.
     and_then (labelled d k place s.labels (pos (length s.items))) (λ labels.
-    items_on d scope k place (record { names = names; labels = labels; items = s.items ++ (i.name, pos (length s.items)) ∷ [] }) is))
+    items_on d k place (record { names = names; labels = labels; items = s.items ++ (i.name, pos (length s.items)) ∷ [] }) is))
 
 -- an enum and its items belong to one scope: its name is tested where it is, and declared after them
-abbrev pub enum_on : ℕ → List (List ℕ) → State → Enum → Answer State
-enum_on d env s e =
-    and_then (refused_by d (lower_of (clash s.names (innermost env) e.name.name) (item_clash e.name.name e.items))) (λ _.
-    and_then (items_on d (innermost env) (length s.types) (length s.labels)
+abbrev pub enum_on : ℕ → State → Enum → Answer State
+enum_on d s e =
+    and_then (refused_by d (lower_of (clash s.names e.name.name) (item_clash e.name.name e.items))) (λ _.
+    and_then (items_on d (length s.types) (length s.labels)
     (record { names = s.names; labels = s.labels; items = [] }) e.items) (λ r.
-    with_type d env e.name.name (enumeration r.items) (tag.Enum (length s.types)) None (record s { names = r.names; labels = r.labels })))
+    with_type d e.name.name (enumeration r.items) (tag.Enum (length s.types)) None (record s { names = r.names; labels = r.labels })))

@@ -23,9 +23,8 @@ use Rattle.corba_decls.specs.declared.type_tree.Base.{Base}
 use Rattle.corba_decls.specs.declared.type_tree.Base.TheVariants as B
 use Rattle.corba_scopes.specs.declared.meanings.Meaning.{Meaning}
 use Rattle.corba_scopes.specs.declared.meanings.Meaning.TheVariants as M
-use Rattle.corba_scopes.specs.declared.meanings.Entry.{Entry}
 use Rattle.corba_scopes.specs.Names.{Names}
-use Rattle.corba_scopes.specs.Finding.{named}
+use Rattle.corba_scopes.specs.Finding.{named, meaning}
 use Rattle.corba_scopes.specs.Consts.{length_of}
 use Rattle.corba_shapes.specs.declared.forms.Core.{Core}
 use Rattle.corba_shapes.specs.declared.forms.Core.TheVariants as C
@@ -49,22 +48,23 @@ number_core k = C.Used (Number k) None
 
 -- ---- names
 
--- the type that a name stands for; and how long it is, where it is a string
-abbrev pub type_of_meaning : ℕ → Meaning → Answer (Use × Option Count)
-type_of_meaning d (M.Type u c) = Ok (u, c)
-type_of_meaning d _ = fault NotType d
+-- the type of what a declared name stands for; and how long it is, where it is a string
+abbrev pub type_of : ℕ → Meaning → Answer (Use × Option Count)
+type_of d (M.Type u c) = Ok (u, c)
+type_of d _ = fault NotType d
 
-abbrev pub type_of_entry : ℕ → Option Entry → Answer (Use × Option Count)
-type_of_entry d None = fault Unknown d
-type_of_entry d (Some e) = type_of_meaning d e.meaning
+-- the same of what a name stands for, if it is declared
+abbrev pub type_of_meaning : ℕ → Option Meaning → Answer (Use × Option Count)
+type_of_meaning d None = fault Unknown d
+type_of_meaning d (Some m) = type_of d m
 
--- the type that a scoped name stands for at a place
-abbrev pub named_type : Names → List (List ℕ) → ℕ → ScopedName → Answer (Use × Option Count)
-named_type s env d n = type_of_entry d (named s env n)
+-- the type that a scoped name stands for here
+abbrev pub named_type : Names → ℕ → ScopedName → Answer (Use × Option Count)
+named_type s d n = type_of_meaning d (meaning (named s n))
 
 -- the same as one that is not a row
-abbrev pub named_core : Names → List (List ℕ) → ℕ → ScopedName → Answer Core
-named_core s env d n = and_then (named_type s env d n) (λ t. Ok (C.Used t.0 t.1))
+abbrev pub named_core : Names → ℕ → ScopedName → Answer Core
+named_core s d n = and_then (named_type s d n) (λ t. Ok (C.Used t.0 t.1))
 
 -- ---- types
 
@@ -76,28 +76,28 @@ simple_core d S.Octet = Ok (number_core kind.Octet)
 simple_core d _ = fault OutOfScope d
 
 -- how many elements a sequence may have, or characters a string: at most its bound, which is from 1, or any number
-abbrev pub bounded : Names → List (List ℕ) → ℕ → Option Tree → Answer Count
-bounded s env d None = Ok Any
-bounded s env d (Some e) = and_then (length_of s env d e) (λ n. Ok (AtMost n))
+abbrev pub bounded : Names → ℕ → Option Tree → Answer Count
+bounded s d None = Ok Any
+bounded s d (Some e) = and_then (length_of s d e) (λ n. Ok (AtMost n))
 
 -- a type that is not a sequence
-abbrev pub base_core : Names → List (List ℕ) → ℕ → Base → Answer Core
-base_core s env d (B.Simple w) = simple_core d w
-base_core s env d B.LongDouble = fault OutOfScope d
-base_core s env d (B.Int i) = Ok (number_core (kind_of i))
-base_core s env d (B.Name n) = named_core s env d n
-base_core s env d (B.Text bound) = and_then (bounded s env d bound) (λ c. Ok (C.Text c))
+abbrev pub base_core : Names → ℕ → Base → Answer Core
+base_core s d (B.Simple w) = simple_core d w
+base_core s d B.LongDouble = fault OutOfScope d
+base_core s d (B.Int i) = Ok (number_core (kind_of i))
+base_core s d (B.Name n) = named_core s d n
+base_core s d (B.Text bound) = and_then (bounded s d bound) (λ c. Ok (C.Text c))
 
 -- what does not stand in a sequence
 abbrev pub single : Core → Form
 single c = record { core = c; rows = [] }
 
 -- a type: what its innermost sequence holds, and then each sequence around it
-abbrev pub type_form : Names → List (List ℕ) → ℕ → List (Option Tree) → Base → Answer Form
-type_form s env d [] b = and_then (base_core s env d b) (λ c. Ok (single c))
-type_form s env d (x ∷ xs) b =
-    and_then (type_form s env d xs b) (λ f.
-    and_then (bounded s env d x) (λ c.
+abbrev pub type_form : Names → ℕ → List (Option Tree) → Base → Answer Form
+type_form s d [] b = and_then (base_core s d b) (λ c. Ok (single c))
+type_form s d (x ∷ xs) b =
+    and_then (type_form s d xs b) (λ f.
+    and_then (bounded s d x) (λ c.
     Ok (record { core = f.core; rows = f.rows ++ c ∷ [] })))
 
 -- ---- what they are

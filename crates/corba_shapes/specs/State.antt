@@ -7,8 +7,7 @@ use Rattle.idl_names.specs.declared.uses.Tag.{Tag}
 use Rattle.idl_names.specs.declared.uses.Use.TheVariants.{Declared}
 use Rattle.idl_names.specs.Answers.{Answer, and_then}
 use Rattle.corba_scopes.specs.declared.meanings.Meaning.TheVariants as M
-use Rattle.corba_scopes.specs.Names.{Names, nothing, declared_on}
-use Rattle.corba_scopes.specs.Around.{innermost}
+use Rattle.corba_scopes.specs.Names.{Names, nothing, here, declared_on}
 
 -- what is declared so far: the names; the numbers of the items of enums, each after the number of its enum among the
 -- types; the types with their full names; the exceptions; and how many declarations have begun
@@ -27,8 +26,8 @@ start = record { names = nothing; labels = []; types = []; exceptions = []; coun
 abbrev pub counted : State → State
 counted s = record s { count = s.count + 1 }
 
--- one more type, by its name in the innermost of the scopes around a place; and how long it is, where it is a string
-abbrev pub with_type : ℕ → List (List ℕ) → List ℕ → Shape → Tag → Option Count → State → Answer State
-with_type d env name shape tag text s =
-    and_then (declared_on d s.names (innermost env) name (M.Type (Declared (length s.types) tag) text)) (λ names.
-    Ok (record s { names = names; types = s.types ++ (innermost env ++ name, shape) ∷ [] }))
+-- one more type, by its name in the innermost of the scopes around the place; and how long it is, where it is a string
+abbrev pub with_type : ℕ → List ℕ → Shape → Tag → Option Count → State → Answer State
+with_type d name shape tag text s =
+    and_then (declared_on d s.names name (M.Type (Declared (length s.types) tag) text)) (λ names.
+    Ok (record s { names = names; types = s.types ++ (here s.names ++ name, shape) ∷ [] }))

@@ -18,8 +18,7 @@ use Rattle.corba_decls.specs.declared.decl_tree.Label.{Label as LabelTree}
 use Rattle.corba_decls.specs.declared.decl_tree.Label.TheVariants as L
 use Rattle.corba_decls.specs.declared.decl_tree.Case.{Case}
 use Rattle.corba_decls.specs.declared.decl_tree.Union.{Union}
-use Rattle.corba_scopes.specs.Names.{Names, clash, refused_by}
-use Rattle.corba_scopes.specs.Around.{innermost, inside}
+use Rattle.corba_scopes.specs.Names.{Names, entered, left, clash, refused_by}
 use Rattle.corba_scopes.specs.Consts.{number}
 use Rattle.corba_shapes.specs.State.{State, with_type}
 use Rattle.corba_shapes.specs.Forms.{kind_of, named_type, type_form, form_shape}
@@ -28,11 +27,11 @@ use Rattle.corba_shapes.specs.Fields.{placed_on}
 -- ---- the tag
 
 -- the type of a tag
-abbrev pub tag_use : Names → List (List ℕ) → ℕ → TagTree → Answer Use
-tag_use s env d (T.Int i) = Ok (Number (kind_of i))
-tag_use s env d T.Char = Ok (Number kind.Char)
-tag_use s env d T.Boolean = Ok (Number kind.Bool)
-tag_use s env d (T.Named n) = and_then (named_type s env d n) (λ t. Ok t.0)
+abbrev pub tag_use : Names → ℕ → TagTree → Answer Use
+tag_use s d (T.Int i) = Ok (Number (kind_of i))
+tag_use s d T.Char = Ok (Number kind.Char)
+tag_use s d T.Boolean = Ok (Number kind.Bool)
+tag_use s d (T.Named n) = and_then (named_type s d n) (λ t. Ok t.0)
 
 -- a type that no tag has: it is not an integer, a character, a truth value or an enum
 abbrev pub is_no_tag : Tag → Bool
@@ -48,17 +47,17 @@ pub record Labels : Type 0 where
   pub default : Bool
 
 -- a label after those before it; there is one default at most
-abbrev pub label_on : Names → List (ℕ × ℤ) → Tag → List (List ℕ) → ℕ → Labels → LabelTree → Answer Labels
-label_on s labels tag env d ls (L.Case e) =
-    and_then (number s env d e) (λ n.
+abbrev pub label_on : Names → List (ℕ × ℤ) → Tag → ℕ → Labels → LabelTree → Answer Labels
+label_on s labels tag d ls (L.Case e) =
+    and_then (number s d e) (λ n.
     and_then (numbered labels tag d ls.numbers n) (λ numbers.
     Ok (record ls { numbers = numbers })))
-label_on s labels tag env d ls L.Default = and_then (refused Label d ls.default) (λ _. Ok (record ls { default = true }))
+label_on s labels tag d ls L.Default = and_then (refused Label d ls.default) (λ _. Ok (record ls { default = true }))
 
 -- labels after those before them
-abbrev pub labels_on : Names → List (ℕ × ℤ) → Tag → List (List ℕ) → ℕ → Labels → List LabelTree → Answer Labels
-labels_on s labels tag env d ls [] = Ok ls
-labels_on s labels tag env d ls (x ∷ xs) = and_then (label_on s labels tag env d ls x) (λ ls. labels_on s labels tag env d ls xs)
+abbrev pub labels_on : Names → List (ℕ × ℤ) → Tag → ℕ → Labels → List LabelTree → Answer Labels
+labels_on s labels tag d ls [] = Ok ls
+labels_on s labels tag d ls (x ∷ xs) = and_then (label_on s labels tag d ls x) (λ ls. labels_on s labels tag d ls xs)
 
 -- ---- cases
 
@@ -75,11 +74,11 @@ other_with true None s = Some s
 other_with _ other s = other
 
 -- a case after those before it
-abbrev pub case_on : List (ℕ × ℤ) → Tag → List (List ℕ) → ℕ → Cases → Case → Answer Cases
-case_on labels tag env d cs c =
-    and_then (labels_on cs.names labels tag env d (record { numbers = cs.numbers; default = is_some cs.other }) c.labels) (λ ls.
-    and_then (type_form cs.names env d c.of.0 c.of.1) (λ f.
-    and_then (placed_on env d cs.names c.declarator) (λ r.
+abbrev pub case_on : List (ℕ × ℤ) → Tag → ℕ → Cases → Case → Answer Cases
+case_on labels tag d cs c =
+    and_then (labels_on cs.names labels tag d (record { numbers = cs.numbers; default = is_some cs.other }) c.labels) (λ ls.
+    and_then (type_form cs.names d c.of.0 c.of.1) (λ f.
+    and_then (placed_on d cs.names c.declarator) (λ r.
     Ok (record {
       names = r.0;
       numbers = ls.numbers;
@@ -88,9 +87,9 @@ case_on labels tag env d cs c =
     }))))
 
 -- cases after those before them
-abbrev pub cases_on : List (ℕ × ℤ) → Tag → List (List ℕ) → ℕ → Cases → List Case → Answer Cases
-cases_on labels tag env d cs [] = Ok cs
-cases_on labels tag env d cs (c ∷ rest) = and_then (case_on labels tag env d cs c) (λ cs. cases_on labels tag env d cs rest)
+abbrev pub cases_on : List (ℕ × ℤ) → Tag → ℕ → Cases → List Case → Answer Cases
+cases_on labels tag d cs [] = Ok cs
+cases_on labels tag d cs (c ∷ rest) = and_then (case_on labels tag d cs c) (λ cs. cases_on labels tag d cs rest)
 
 -- ---- the union
 
@@ -99,11 +98,11 @@ abbrev pub union_shape : Use → Cases → Shape
 union_shape t cs = choice (shape_of_use t) (arms_of cs.arms (default (unwrap_or cs.other void)))
 
 -- a type with a choice; its name is tested where it is, and declared after its cases
-abbrev pub union_on : ℕ → List (List ℕ) → State → Union → Answer State
-union_on d env s u =
-    and_then (refused_by d (clash s.names (innermost env) u.name.name)) (λ _.
-    and_then (tag_use s.names (inside u.name.name env) d u.tag) (λ t.
+abbrev pub union_on : ℕ → State → Union → Answer State
+union_on d s u =
+    and_then (refused_by d (clash s.names u.name.name)) (λ _.
+    and_then (tag_use (entered u.name.name s.names) d u.tag) (λ t.
     and_then (refused NotType d (is_no_tag (tag_of_use t))) (λ _.
-    and_then (cases_on s.labels (tag_of_use t) (inside u.name.name env) d
-    (record { names = s.names; numbers = []; arms = []; other = None }) u.cases) (λ cs.
-    with_type d env u.name.name (union_shape t cs) tag.Other None (record s { names = cs.names })))))
+    and_then (cases_on s.labels (tag_of_use t) d
+    (record { names = entered u.name.name s.names; numbers = []; arms = []; other = None }) u.cases) (λ cs.
+    with_type d u.name.name (union_shape t cs) tag.Other None (record s { names = left cs.names })))))

@@ -7,19 +7,18 @@ ghost use Rattle.corba_shapes.specs.Constants.{constant_core, is_no_constant, ha
 ghost use Rattle.corba_shapes.specs.Constants.{fits, constant_on};
 
 use crate::forms::{Core, core_tag, core_text, kind_of, named_core, number_core};
-use crate::places::At;
 use crate::state::Shapes;
 use aoi::{NameErr, NameFault};
 use corba_decls::{Constant as Tree, ConstantType};
-use corba_scopes::{Constant, Scopes, innermost};
+use corba_scopes::{Constant, Scopes};
 use idl_names::{Tag, is_of, refuse};
 use indexmap::IndexSet;
 use mint::kind::{Count, Kind};
 use std::alloc::Global;
 
 /// The type of a constant.
-fn constant_core(alloc: Global, scopes: &Scopes, at: At, of: &ConstantType) -> Result<Core, NameErr>
-    ensures { Gives (λ x. x) result (constant_core scopes.now at.entry.env.now at.entry.d of.now) }
+fn constant_core(scopes: &Scopes, d: u32, of: &ConstantType) -> Result<Core, NameErr>
+    ensures { Gives (λ x. x) result (constant_core scopes.now d of.now) }
 {
     match of {
         ConstantType::Int(i) => Ok(number_core(kind_of(i))),
@@ -27,7 +26,7 @@ fn constant_core(alloc: Global, scopes: &Scopes, at: At, of: &ConstantType) -> R
         ConstantType::Boolean => Ok(number_core(Kind::Bool)),
         ConstantType::Octet => Ok(number_core(Kind::Octet)),
         ConstantType::Text => Ok(Core::Text(Count::Any)),
-        ConstantType::Named(name) => named_core(alloc, scopes, at, name),
+        ConstantType::Named(name) => named_core(scopes, d, name),
     }
 }
 
@@ -73,15 +72,14 @@ fn fits(labels: &IndexSet<(u32, i128)>, core: Core, value: Constant) -> bool
 }
 
 /// Declares a constant, after its value is judged.
-pub(crate) fn constant(alloc: Global, r: &mut Shapes, at: At, c: &Tree) -> Result<(), NameErr>
-    ensures { Gives (λ _. state r.new) result (constant_on at.entry.d at.entry.env.now (state r.old) c.now) }
+pub(crate) fn constant(alloc: Global, r: &mut Shapes, d: u32, c: &Tree) -> Result<(), NameErr>
+    ensures { Gives (λ _. state r.new) result (constant_on d (state r.old) c.now) }
 {
-    let core = constant_core(alloc, &r.scopes, at, &c.of)?;
-    refuse(NameFault::NotType, at.d, is_no_constant(core))?;
+    let core = constant_core(&r.scopes, d, &c.of)?;
+    refuse(NameFault::NotType, d, is_no_constant(core))?;
     let name = c.name.name.as_slice();
-    r.scopes.refuse_clash(alloc, at.d, innermost(at.env), name)?;
-    let value = r.scopes.constant(alloc, at.env, at.d, &c.value)?;
-    refuse(NameFault::Range, at.d, !fits(&r.labels, core, value))?;
-    r.scopes
-        .declare_new(alloc, at.d, innermost(at.env), name, value.meaning())
+    r.scopes.refuse_clash(alloc, d, name)?;
+    let value = r.scopes.constant(d, &c.value)?;
+    refuse(NameFault::Range, d, !fits(&r.labels, core, value))?;
+    r.scopes.declare_new(alloc, d, name, value.meaning())
 }

@@ -7,15 +7,14 @@ ghost use Rattle.corba_scopes.specs.Names.{lower, lower_of, refused_by, clash};
 ghost use Rattle.corba_shapes.specs.Held.{state};
 ghost use Rattle.corba_shapes.specs.Enums.{item_clash, items_on, enum_on};
 
-use crate::places::At;
 use crate::state::Shapes;
 use aoi::{Items, NameErr, NameFault};
 use corba_decls::Enum;
-use corba_scopes::{Meaning, Scopes, innermost, lower_of, refuse_fault};
+use corba_scopes::{Meaning, Scopes, lower_of, refuse_fault};
 use idl_exprs::Identifier;
-use idl_names::{Tag, add_label, enum_of, want};
+use idl_names::{Tag, add_label, enum_of, item_of, want};
 use indexmap::IndexSet;
-use kit_base::{Name, NoMemory};
+use kit_base::NoMemory;
 use std::alloc::Global;
 
 /// Whether an item has the name.
@@ -66,23 +65,15 @@ fn refuse_name(
     alloc: Global,
     scopes: &Scopes,
     d: u32,
-    scope: &[u8],
     name: &[u8],
     items: &[Identifier],
 ) -> Result<(), NameErr>
     ensures { Gives (λ x. x) result
-        (refused_by d (lower_of (clash scopes.now scope.now name.now) (item_clash name.now items.now))) }
+        (refused_by d (lower_of (clash scopes.now name.now) (item_clash name.now items.now))) }
 {
-    let f = scopes.clash(alloc, scope, name)?;
+    let f = scopes.clash(alloc, name)?;
     let g = item_clash(alloc, name, items)?;
     refuse_fault(d, lower_of(f, g))
-}
-
-/// An item of an enum: its name and its number.
-fn owned(alloc: Global, name: &[u8], n: i32) -> Result<(Name, i32), NoMemory>
-    ensures { IfOk result (λ i. i ≡ (name.now, n)) }
-{
-    Ok((Name::from_slice(alloc, name)?, n))
 }
 
 /// Declares the items of an enum, and gives them with their numbers.
@@ -91,13 +82,12 @@ fn items(
     scopes: &mut Scopes,
     labels: &mut IndexSet<(u32, i128)>,
     d: u32,
-    scope: &[u8],
     k: u32,
     place: usize,
     list: &[Identifier],
 ) -> Result<Items, NameErr>
     ensures { Gives (λ items. record { names = scopes.new; labels = labels.new.keys; items = items }) result
-        (items_on d scope.now k place
+        (items_on d k place
         (record { names = scopes.old; labels = labels.old.keys; items = [] }) list.now) }
 {
     let mut items = Items::new(alloc);
@@ -106,37 +96,29 @@ fn items(
         let Ok(n) = i32::try_from(items.len()) else {
             return Err(want());
         };
-        scopes.declare_new(alloc, d, scope, name, Meaning::Number(i128::from(n)))?;
+        scopes.declare_new(alloc, d, name, Meaning::Number(i128::from(n)))?;
         add_label(labels, d, k, place, i128::from(n))?;
-        items.push(owned(alloc, name, n)?)?;
+        items.push(item_of(alloc, name, n)?)?;
     }
     Ok(items)
 }
 
 /// Declares an enum and its items.
-pub(crate) fn enum_(alloc: Global, r: &mut Shapes, at: At, e: &Enum) -> Result<(), NameErr>
-    ensures { Gives (λ _. state r.new) result (enum_on at.entry.d at.entry.env.now (state r.old) e.now) }
+pub(crate) fn enum_(alloc: Global, r: &mut Shapes, d: u32, e: &Enum) -> Result<(), NameErr>
+    ensures { Gives (λ _. state r.new) result (enum_on d (state r.old) e.now) }
 {
     let name = e.name.name.as_slice();
-    refuse_name(
-        alloc,
-        &r.scopes,
-        at.d,
-        innermost(at.env),
-        name,
-        e.items.as_slice(),
-    )?;
+    refuse_name(alloc, &r.scopes, d, name, e.items.as_slice())?;
     let k = r.next_type()?;
     let place = r.labels.len();
     let items = items(
         alloc,
         &mut r.scopes,
         &mut r.labels,
-        at.d,
-        innermost(at.env),
+        d,
         k,
         place,
         e.items.as_slice(),
     )?;
-    r.declare_type(alloc, at, name, enum_of(items), Tag::Enum(k), None)
+    r.declare_type(alloc, d, name, enum_of(items), Tag::Enum(k), None)
 }

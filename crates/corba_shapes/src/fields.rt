@@ -7,10 +7,9 @@ ghost use Rattle.corba_shapes.specs.Forms.{form_shape};
 ghost use Rattle.corba_shapes.specs.Fields.{lengths_on, placed_on, fields_on, members_on};
 
 use crate::forms::{Form, form_ty, type_form};
-use crate::places::At;
 use aoi::{Counts, Field, Fields, NameErr};
 use corba_decls::{Declarator, Dimension, Member};
-use corba_scopes::{Meaning, Scopes, innermost};
+use corba_scopes::{Meaning, Scopes};
 use kit_base::{Name, NoMemory};
 use mint::kind::Count;
 use std::alloc::Global;
@@ -19,14 +18,14 @@ use std::alloc::Global;
 pub(crate) fn lengths(
     alloc: Global,
     scopes: &Scopes,
-    at: At,
+    d: u32,
     list: &[Dimension],
 ) -> Result<Counts, NameErr>
-    ensures { Gives (λ x. x) result (lengths_on scopes.now at.entry.env.now at.entry.d [] list.now) }
+    ensures { Gives (λ x. x) result (lengths_on scopes.now d [] list.now) }
 {
     let mut counts = Counts::new(alloc);
     for dimension in list {
-        let n = scopes.length(alloc, at.env, at.d, &dimension.length)?;
+        let n = scopes.length(d, &dimension.length)?;
         counts.push(Count::Exactly(n))?;
     }
     Ok(counts)
@@ -36,16 +35,16 @@ pub(crate) fn lengths(
 pub(crate) fn placed(
     alloc: Global,
     scopes: &mut Scopes,
-    at: At,
+    d: u32,
     declarator: &Declarator,
 ) -> Result<Counts, NameErr>
     ensures { Gives (λ ns. (scopes.new, ns)) result
-        (placed_on at.entry.env.now at.entry.d scopes.old declarator.now) }
+        (placed_on d scopes.old declarator.now) }
 {
     let name = declarator.name.name.as_slice();
-    scopes.refuse_clash(alloc, at.d, innermost(at.env), name)?;
-    let counts = lengths(alloc, scopes, at, declarator.dimensions.as_slice())?;
-    scopes.declare_new(alloc, at.d, innermost(at.env), name, Meaning::Other)?;
+    scopes.refuse_clash(alloc, d, name)?;
+    let counts = lengths(alloc, scopes, d, declarator.dimensions.as_slice())?;
+    scopes.declare_new(alloc, d, name, Meaning::Other)?;
     Ok(counts)
 }
 
@@ -63,17 +62,17 @@ fn field(alloc: Global, name: &[u8], form: &Form, lengths: &[Count]) -> Result<F
 fn add_fields(
     alloc: Global,
     scopes: &mut Scopes,
-    at: At,
+    d: u32,
     form: &Form,
     fields: &mut Fields,
     list: &[Declarator],
 ) -> Result<(), NameErr>
     ensures { Gives (λ _. record { names = scopes.new; fields = map seen_field fields.new }) result
-        (fields_on at.entry.env.now at.entry.d form.now
+        (fields_on d form.now
         (record { names = scopes.old; fields = map seen_field fields.old }) list.now) }
 {
     for declarator in list {
-        let counts = placed(alloc, scopes, at, declarator)?;
+        let counts = placed(alloc, scopes, d, declarator)?;
         let name = declarator.name.name.as_slice();
         fields.push(field(alloc, name, form, counts.as_slice())?)?;
     }
@@ -84,19 +83,19 @@ fn add_fields(
 pub(crate) fn members(
     alloc: Global,
     scopes: &mut Scopes,
-    at: At,
+    d: u32,
     list: &[Member],
 ) -> Result<Fields, NameErr>
     ensures { Gives (λ fields. record { names = scopes.new; fields = map seen_field fields }) result
-        (members_on at.entry.env.now at.entry.d (record { names = scopes.old; fields = [] }) list.now) }
+        (members_on d (record { names = scopes.old; fields = [] }) list.now) }
 {
     let mut fields = Fields::new(alloc);
     for member in list {
-        let form = type_form(alloc, scopes, at, &member.of)?;
+        let form = type_form(alloc, scopes, d, &member.of)?;
         add_fields(
             alloc,
             scopes,
-            at,
+            d,
             &form,
             &mut fields,
             member.declarators.as_slice(),

@@ -3,18 +3,17 @@
 ghost use Rattle.std.specs.Prelude.{◌≡◌, IfOk};
 ghost use Rattle.aoi.specs.Shapes.{seen};
 ghost use Rattle.idl_names.specs.Answers.{Gives};
-ghost use Rattle.corba_shapes.specs.Forms.{kind_of, number_core, type_of_entry, named_type, named_core};
+ghost use Rattle.corba_shapes.specs.Forms.{kind_of, number_core, type_of_meaning, named_type, named_core};
 ghost use Rattle.corba_shapes.specs.Forms.{simple_core, bounded, base_core, single, type_form};
 ghost use Rattle.corba_shapes.specs.Forms.{core_shape, rowed, form_shape, lengths_of};
 ghost use Rattle.corba_shapes.specs.Forms.{is_row, core_tag, core_text, form_tag, form_text};
 
-use crate::places::At;
 use aoi::{Counts, NameErr, NameFault, Ty};
 use corba_decls::{Base, Int, IntSize, Simple, TypeName, TypeNode};
-use corba_scopes::{Entry, Meaning, Scopes};
+use corba_scopes::{Meaning, Scopes};
 use idl_exprs::{Expr, ScopedName};
-use idl_names::{Tag, Use, array_of, arrays_of, tag_of_use, ty_of_use};
-use kit_base::{Name, NoMemory};
+use idl_names::{Tag, Use, array_of, arrays_of, fault, tag_of_use, ty_of_use};
+use kit_base::NoMemory;
 use kit_shared::Shared;
 use mint::kind::{Count, Kind};
 use std::alloc::Global;
@@ -61,49 +60,37 @@ pub(crate) fn number_core(kind: Kind) -> Core
     Core::Used(Use::Number(kind), None)
 }
 
-/// The type that a declared name stands for.
-fn type_of_entry(d: u32, entry: &Option<Entry>) -> Result<(Use, Option<Count>), NameErr>
-    ensures value { Gives (λ x. x) result (type_of_entry d entry.now) }
-    ensures exact { result ≡ type_of_entry d entry.now }
+/// The type of what a name stands for, if it is declared.
+fn type_of_meaning(d: u32, meaning: Option<Meaning>) -> Result<(Use, Option<Count>), NameErr>
+    ensures value { Gives (λ x. x) result (type_of_meaning d meaning) }
+    ensures exact { result ≡ type_of_meaning d meaning }
 {
-    let Some(entry) = entry else {
-        return Err(NameErr {
-            fault: NameFault::Unknown,
-            decl: d,
-        });
+    let Some(meaning) = meaning else {
+        return Err(fault(NameFault::Unknown, d));
     };
-    match entry.meaning {
+    match meaning {
         Meaning::Type(used, text) => Ok((used, text)),
-        _ => Err(NameErr {
-            fault: NameFault::NotType,
-            decl: d,
-        }),
+        _ => Err(fault(NameFault::NotType, d)),
     }
 }
 
-/// The type that a scoped name stands for at a place; and how many characters it has, where it is a string.
+/// The type that a scoped name stands for here; and how many characters it has, where it is a string.
 pub fn named_type(
-    alloc: Global,
     scopes: &Scopes,
-    at: At,
+    d: u32,
     name: &ScopedName,
 ) -> Result<(Use, Option<Count>), NameErr>
-    ensures { Gives (λ x. x) result (named_type scopes.now at.entry.env.now at.entry.d name.now) }
+    ensures { Gives (λ x. x) result (named_type scopes.now d name.now) }
 {
-    let entry = scopes.named(alloc, at.env, name)?;
-    type_of_entry(at.d, &entry)
+    let meaning = scopes.named(name);
+    type_of_meaning(d, meaning)
 }
 
-/// The type that a scoped name stands for at a place, as one that is not a row.
-pub(crate) fn named_core(
-    alloc: Global,
-    scopes: &Scopes,
-    at: At,
-    name: &ScopedName,
-) -> Result<Core, NameErr>
-    ensures { Gives (λ x. x) result (named_core scopes.now at.entry.env.now at.entry.d name.now) }
+/// The type that a scoped name stands for here, as one that is not a row.
+pub(crate) fn named_core(scopes: &Scopes, d: u32, name: &ScopedName) -> Result<Core, NameErr>
+    ensures { Gives (λ x. x) result (named_core scopes.now d name.now) }
 {
-    let (used, text) = named_type(alloc, scopes, at, name)?;
+    let (used, text) = named_type(scopes, d, name)?;
     Ok(Core::Used(used, text))
 }
 
@@ -116,36 +103,30 @@ fn simple_core(d: u32, word: Simple) -> Result<Core, NameErr>
         Simple::Char => Ok(number_core(Kind::Char)),
         Simple::Boolean => Ok(number_core(Kind::Bool)),
         Simple::Octet => Ok(number_core(Kind::Octet)),
-        _ => Err(NameErr {
-            fault: NameFault::OutOfScope,
-            decl: d,
-        }),
+        _ => Err(fault(NameFault::OutOfScope, d)),
     }
 }
 
 /// How many elements a sequence may have, or characters a string.
-fn bounded(alloc: Global, scopes: &Scopes, at: At, bound: &Option<Expr>) -> Result<Count, NameErr>
-    ensures { Gives (λ x. x) result (bounded scopes.now at.entry.env.now at.entry.d bound.now) }
+fn bounded(scopes: &Scopes, d: u32, bound: &Option<Expr>) -> Result<Count, NameErr>
+    ensures { Gives (λ x. x) result (bounded scopes.now d bound.now) }
 {
     match bound {
         None => Ok(Count::Any),
-        Some(e) => Ok(Count::AtMost(scopes.length(alloc, at.env, at.d, e)?)),
+        Some(e) => Ok(Count::AtMost(scopes.length(d, e)?)),
     }
 }
 
 /// A type that is not a sequence.
-fn base_core(alloc: Global, scopes: &Scopes, at: At, base: &Base) -> Result<Core, NameErr>
-    ensures { Gives (λ x. x) result (base_core scopes.now at.entry.env.now at.entry.d base.now) }
+fn base_core(scopes: &Scopes, d: u32, base: &Base) -> Result<Core, NameErr>
+    ensures { Gives (λ x. x) result (base_core scopes.now d base.now) }
 {
     match base {
-        Base::Simple(word) => simple_core(at.d, *word),
-        Base::LongDouble => Err(NameErr {
-            fault: NameFault::OutOfScope,
-            decl: at.d,
-        }),
+        Base::Simple(word) => simple_core(d, *word),
+        Base::LongDouble => Err(fault(NameFault::OutOfScope, d)),
         Base::Int(i) => Ok(number_core(kind_of(i))),
-        Base::Name(name) => named_core(alloc, scopes, at, name),
-        Base::Text(bound) => Ok(Core::Text(bounded(alloc, scopes, at, bound)?)),
+        Base::Name(name) => named_core(scopes, d, name),
+        Base::Text(bound) => Ok(Core::Text(bounded(scopes, d, bound)?)),
     }
 }
 
@@ -159,15 +140,15 @@ pub(crate) fn single(alloc: Global, core: Core) -> Form
     }
 }
 
-/// A type as it is used at a place.
-pub fn type_form(alloc: Global, scopes: &Scopes, at: At, t: &TypeName) -> Result<Form, NameErr>
-    ensures { Gives (λ x. x) result (type_form scopes.now at.entry.env.now at.entry.d t.now.0 t.now.1) }
+/// A type as it is used here.
+pub fn type_form(alloc: Global, scopes: &Scopes, d: u32, t: &TypeName) -> Result<Form, NameErr>
+    ensures { Gives (λ x. x) result (type_form scopes.now d t.now.0 t.now.1) }
 {
     match &t.node {
-        TypeNode::Base(base) => Ok(single(alloc, base_core(alloc, scopes, at, base)?)),
+        TypeNode::Base(base) => Ok(single(alloc, base_core(scopes, d, base)?)),
         TypeNode::Sequence(element, bound) => {
-            let mut form = type_form(alloc, scopes, at, element)?;
-            form.rows.push(bounded(alloc, scopes, at, bound)?)?;
+            let mut form = type_form(alloc, scopes, d, element)?;
+            form.rows.push(bounded(scopes, d, bound)?)?;
             Ok(form)
         }
     }

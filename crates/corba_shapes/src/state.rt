@@ -7,11 +7,10 @@ ghost use Rattle.idl_names.specs.Answers.{Gives};
 ghost use Rattle.corba_shapes.specs.Held.{state};
 ghost use Rattle.corba_shapes.specs.State.{start, counted, with_type};
 
-use crate::places::At;
 use crate::types::TypeList;
 use aoi::{NameErr, Raises, Ty};
-use corba_scopes::{Meaning, Scopes, innermost, named_in};
-use idl_names::{Tag, Use, want};
+use corba_scopes::{Meaning, Scopes};
+use idl_names::{Tag, Use, count_of, next_decl};
 use indexmap::IndexSet;
 use mint::kind::Count;
 use std::alloc::Global;
@@ -51,13 +50,9 @@ impl Shapes {
         ensures number { IfOk result (λ d. d ≡ self.old.count + 1) }
         ensures err { IfErr result (λ e. e.fault ≡ OutOfMemory) }
     {
-        match self.count.checked_add(1) {
-            Some(n) => {
-                self.count = n;
-                Ok(n)
-            }
-            None => Err(want()),
-        }
+        let n = next_decl(self.count)?;
+        self.count = n;
+        Ok(n)
     }
 
     /// The number of the next type.
@@ -65,30 +60,27 @@ impl Shapes {
         ensures ok { IfOk result (λ k. k ≡ length self.now.types) }
         ensures err { IfErr result (λ e. e.fault ≡ OutOfMemory) }
     {
-        match u32::try_from(self.types.len()) {
-            Ok(k) => Ok(k),
-            Err(_) => Err(want()),
-        }
+        count_of(self.types.len())
     }
 
-    /// Puts a type after the others, and declares its name in the innermost of the scopes around a place.
+    /// Puts a type after the others, and declares its name here.
     pub(crate) fn declare_type(
         &mut self,
         alloc: Global,
-        at: At,
+        d: u32,
         name: &[u8],
         ty: Ty,
         tag: Tag,
         text: Option<Count>,
     ) -> Result<(), NameErr>
         ensures { Gives (λ _. state self.new) result
-            (with_type at.entry.d at.entry.env.now name.now (seen ty) tag text (state self.old)) }
+            (with_type d name.now (seen ty) tag text (state self.old)) }
     {
         let k = self.next_type()?;
+        let full = self.scopes.full_name(alloc, name)?;
         let meaning = Meaning::Type(Use::Declared(k, tag), text);
-        self.scopes
-            .declare_new(alloc, at.d, innermost(at.env), name, meaning)?;
-        self.types.add(named_in(alloc, at.env, name)?, ty)?;
+        self.scopes.declare_new(alloc, d, name, meaning)?;
+        self.types.add(full, ty)?;
         Ok(())
     }
 }

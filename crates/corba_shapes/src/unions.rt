@@ -13,11 +13,10 @@ ghost use Rattle.corba_shapes.specs.Unions.{other_with, case_on, cases_on, union
 
 use crate::fields::placed;
 use crate::forms::{Form, Kept, form_ty, kept, kept_ty, kind_of, named_type, type_form};
-use crate::places::At;
 use crate::state::Shapes;
 use aoi::{NameErr, NameFault, Ty, UnionArms};
 use corba_decls::{Case, Label, Tag as TagTree, Union};
-use corba_scopes::{Scopes, innermost, inside};
+use corba_scopes::Scopes;
 use idl_names::{Tag, Use, add_number_of, after, boxed, refuse, tag_of_use, ty_of_use, union_of};
 use indexmap::IndexSet;
 use kit_base::NoMemory;
@@ -25,14 +24,14 @@ use mint::kind::{Count, Kind};
 use std::alloc::Global;
 
 /// The type of a tag.
-fn tag_use(alloc: Global, scopes: &Scopes, at: At, tag: &TagTree) -> Result<Use, NameErr>
-    ensures { Gives (λ x. x) result (tag_use scopes.now at.entry.env.now at.entry.d tag.now) }
+fn tag_use(scopes: &Scopes, d: u32, tag: &TagTree) -> Result<Use, NameErr>
+    ensures { Gives (λ x. x) result (tag_use scopes.now d tag.now) }
 {
     match tag {
         TagTree::Int(i) => Ok(Use::Number(kind_of(i))),
         TagTree::Char => Ok(Use::Number(Kind::Char)),
         TagTree::Boolean => Ok(Use::Number(Kind::Bool)),
-        TagTree::Named(name) => Ok(named_type(alloc, scopes, at, name)?.0),
+        TagTree::Named(name) => Ok(named_type(scopes, d, name)?.0),
     }
 }
 
@@ -48,27 +47,26 @@ fn is_no_tag(tag: Tag) -> bool
 
 /// Puts a label after those that stand before it, and says whether there is a default now.
 fn label(
-    alloc: Global,
     scopes: &Scopes,
     labels: &IndexSet<(u32, i128)>,
     tag: Tag,
-    at: At,
+    d: u32,
     numbers: &mut IndexSet<i128>,
     default: bool,
     label: &Label,
 ) -> Result<bool, NameErr>
     ensures { Gives (λ b. record { numbers = numbers.new.keys; default = b }) result
-        (label_on scopes.now labels.now.keys tag at.entry.env.now at.entry.d
+        (label_on scopes.now labels.now.keys tag d
         (record { numbers = numbers.old.keys; default = default }) label.now) }
 {
     match label {
         Label::Case(e) => {
-            let n = scopes.number(alloc, at.env, at.d, e)?;
-            add_number_of(labels, tag, at.d, numbers, n)?;
+            let n = scopes.number(d, e)?;
+            add_number_of(labels, tag, d, numbers, n)?;
             Ok(default)
         }
         Label::Default => {
-            refuse(NameFault::Label, at.d, default)?;
+            refuse(NameFault::Label, d, default)?;
             Ok(true)
         }
     }
@@ -76,22 +74,21 @@ fn label(
 
 /// Puts labels after those that stand before them, and says whether there is a default now.
 fn labels_of(
-    alloc: Global,
     scopes: &Scopes,
     labels: &IndexSet<(u32, i128)>,
     tag: Tag,
-    at: At,
+    d: u32,
     numbers: &mut IndexSet<i128>,
     default: bool,
     list: &[Label],
 ) -> Result<bool, NameErr>
     ensures { Gives (λ b. record { numbers = numbers.new.keys; default = b }) result
-        (labels_on scopes.now labels.now.keys tag at.entry.env.now at.entry.d
+        (labels_on scopes.now labels.now.keys tag d
         (record { numbers = numbers.old.keys; default = default }) list.now) }
 {
     let mut given = default;
     for l in list {
-        given = label(alloc, scopes, labels, tag, at, numbers, given, l)?;
+        given = label(scopes, labels, tag, d, numbers, given, l)?;
     }
     Ok(given)
 }
@@ -156,7 +153,7 @@ fn case(
     scopes: &mut Scopes,
     labels: &IndexSet<(u32, i128)>,
     tag: Tag,
-    at: At,
+    d: u32,
     numbers: &mut IndexSet<i128>,
     arms: &mut UnionArms,
     other: Option<Box<Ty>>,
@@ -167,7 +164,7 @@ fn case(
       numbers = numbers.new.keys;
       arms = arms_held arms.new;
       other = option_map (λ b. seen b.value) o;
-    }) result (case_on labels.now.keys tag at.entry.env.now at.entry.d (record {
+    }) result (case_on labels.now.keys tag d (record {
       names = scopes.old;
       numbers = numbers.old.keys;
       arms = arms_held arms.old;
@@ -175,17 +172,16 @@ fn case(
     }) case.now) }
 {
     let default = labels_of(
-        alloc,
         scopes,
         labels,
         tag,
-        at,
+        d,
         numbers,
         other.is_some(),
         case.labels.as_slice(),
     )?;
-    let form = type_form(alloc, scopes, at, &case.of)?;
-    let lengths = placed(alloc, scopes, at, &case.declarator)?;
+    let form = type_form(alloc, scopes, d, &case.of)?;
+    let lengths = placed(alloc, scopes, d, &case.declarator)?;
     let lengths = lengths.as_slice();
     add_arms(
         alloc,
@@ -203,7 +199,7 @@ fn cases(
     scopes: &mut Scopes,
     labels: &IndexSet<(u32, i128)>,
     tag: Tag,
-    at: At,
+    d: u32,
     numbers: &mut IndexSet<i128>,
     list: &[Case],
 ) -> Result<(UnionArms, Option<Box<Ty>>), NameErr>
@@ -212,13 +208,13 @@ fn cases(
       numbers = numbers.new.keys;
       arms = arms_held c.0;
       other = option_map (λ b. seen b.value) c.1;
-    }) result (cases_on labels.now.keys tag at.entry.env.now at.entry.d
+    }) result (cases_on labels.now.keys tag d
         (record { names = scopes.old; numbers = numbers.old.keys; arms = []; other = None }) list.now) }
 {
     let mut arms = UnionArms::new(alloc);
     let mut other = None;
     for c in list {
-        other = case(alloc, scopes, labels, tag, at, numbers, &mut arms, other, c)?;
+        other = case(alloc, scopes, labels, tag, d, numbers, &mut arms, other, c)?;
     }
     Ok((arms, other))
 }
@@ -248,29 +244,26 @@ fn union_ty(
 }
 
 /// Declares a union, after its cases.
-pub(crate) fn union_(alloc: Global, r: &mut Shapes, at: At, u: &Union) -> Result<(), NameErr>
-    ensures { Gives (λ _. state r.new) result (union_on at.entry.d at.entry.env.now (state r.old) u.now) }
+pub(crate) fn union_(alloc: Global, r: &mut Shapes, d: u32, u: &Union) -> Result<(), NameErr>
+    ensures { Gives (λ _. state r.new) result (union_on d (state r.old) u.now) }
 {
     let name = u.name.name.as_slice();
-    r.scopes.refuse_clash(alloc, at.d, innermost(at.env), name)?;
-    let inner = inside(alloc, at.env, name)?;
-    let inner = At {
-        env: inner.as_slice(),
-        d: at.d,
-    };
-    let used = tag_use(alloc, &r.scopes, inner, &u.tag)?;
+    r.scopes.refuse_clash(alloc, d, name)?;
+    r.scopes.enter(alloc, name)?;
+    let used = tag_use(&r.scopes, d, &u.tag)?;
     let tag = tag_of_use(used);
-    refuse(NameFault::NotType, at.d, is_no_tag(tag))?;
+    refuse(NameFault::NotType, d, is_no_tag(tag))?;
     let mut numbers = IndexSet::new(alloc);
     let (arms, other) = cases(
         alloc,
         &mut r.scopes,
         &r.labels,
         tag,
-        inner,
+        d,
         &mut numbers,
         u.cases.as_slice(),
     )?;
+    r.scopes.leave();
     let ty = union_ty(alloc, used, arms, other)?;
-    r.declare_type(alloc, at, name, ty, Tag::Other, None)
+    r.declare_type(alloc, d, name, ty, Tag::Other, None)
 }

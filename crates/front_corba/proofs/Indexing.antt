@@ -1,5 +1,6 @@
 -- Sets of names beside the operations that have them, by induction on the operations.
-use Rattle.std.proofs.Common.{◌≡◌, ℕ, Bool, true, false, ◌&&◌, ◌||◌, ◌==◌, List, [], ◌∷◌, ◌++◌, map, refl, sym, ap, subst, ◌∙◌, if◌then◌else◌, Result, Ok, Err, IfOk}
+use Rattle.std.proofs.Common.{◌≡◌, ℕ, zero, suc, Bool, true, false, ◌&&◌, ◌||◌, ◌==◌, List, [], ◌∷◌, ◌++◌, map, refl, sym, ap, subst, ◌∙◌, if◌then◌else◌}
+use Rattle.std.specs.Prelude.{slice_get}
 use Rattle.std.specs.List.{list_any}
 use Rattle.std.specs.Str.{bytes_eq}
 use Rattle.std.specs.Bool.{one_answer}
@@ -14,9 +15,10 @@ use Rattle.corba_scopes.specs.Names.{lower}
 use Rattle.corba_scopes.specs.Finding.{added}
 use Rattle.indexmap.specs.IndexSet.{insert_key}
 use Rattle.front_corba.specs.declared.state.Offer.{Offer}
+use Rattle.front_corba.specs.State.{PlainOffer}
 use Rattle.front_corba.specs.Held.{plain_offer}
 use Rattle.front_corba.specs.Offers.{offer_names}
-use Rattle.front_corba.specs.Bases.{is_there}
+use Rattle.front_corba.specs.Bases.{is_same, is_this, is_there}
 use Rattle.front_corba.specs.Named.{Origins, declares, with_origin, names_of, origins_of, IsIndex}
 
 -- ---- a set beside a list
@@ -117,20 +119,25 @@ origin_turned : (h k : ℕ) (a b : List ℕ) → (h == k && bytes_eq a b) ≡ (k
 origin_turned h k a b = ap (λ z. z && bytes_eq a b) (number_turned h k) ∙ ap (λ z. k == h && z) (name_turned a b)
 
 -- an operation is one of these where its interface declares its name
-pub origins_are : (home : ℕ) (name : List ℕ) (list : List Offer)
-    → declares home name (origins_of list) ≡ list_any (λ p. p.home == home && bytes_eq p.operation.name name) (map plain_offer list)
-origins_are home name [] = refl
-origins_are home name (o ∷ os) =
-    ap (λ z. z || declares home name (origins_of os)) (origin_turned home o.home name o.operation.name)
-    ∙ ap (λ z. (o.home == home && bytes_eq o.operation.name name) || z) (origins_are home name os)
+pub origins_are : (o : Offer) (list : List Offer)
+    → declares o.home o.operation.name (origins_of list) ≡ is_there (plain_offer o) (map plain_offer list)
+origins_are o [] = refl
+origins_are o (p ∷ ps) =
+    ap (λ z. z || declares o.home o.operation.name (origins_of ps)) (origin_turned o.home p.home o.operation.name p.operation.name)
+    ∙ ap (λ z. is_same (plain_offer o) (plain_offer p) || z) (origins_are o ps)
 
--- what is answered where an operation is sought by its interface and its name
-pub there_is : {E : Type 0} (o : Offer) (ops list : List Offer) (name : List ℕ) (names folded : List (List ℕ)) (origins : Origins)
-    (result : Result Bool E) → name ≡ o.operation.name → IsIndex list names folded origins → list ≡ ops
-    → IfOk result (λ b. b ≡ declares o.home name origins) → IfOk result (λ b. b ≡ is_there (plain_offer o) (map plain_offer ops))
-there_is o ops list name names folded origins (Err e) same is view h = tt
-there_is o ops list name names folded origins (Ok b) same is view h =
-    h ∙ is.origin o.home name ∙ ap (λ z. declares o.home z (origins_of list)) same ∙ origins_are o.home o.operation.name list
+-- an operation that is at a place is one of these
+pub at_there : (o : PlainOffer) (ops : List PlainOffer) (k : ℕ) → is_this o (slice_get ops k) ≡ true → is_there o ops ≡ true
+at_there o [] k h = absurd cc
+at_there o (p ∷ ps) zero h = ap (λ z. z || is_there o ps) h
+at_there o (p ∷ ps) (suc k) h = ap (λ z. is_same o p || z) (at_there o ps k h) ∙ or-true (is_same o p)
+
+-- what a search for an operation by its interface and its name has found
+pub sought_there : (o : Offer) (ops list : List Offer) (name : List ℕ) (names folded : List (List ℕ)) (origins : Origins) (b : Bool)
+    → name ≡ o.operation.name → IsIndex list names folded origins → list ≡ ops
+    → b ≡ declares o.home name origins → b ≡ is_there (plain_offer o) (map plain_offer ops)
+sought_there o ops list name names folded origins b same is view h =
+    h ∙ is.origin o.home name ∙ ap (λ z. declares o.home z (origins_of list)) same ∙ origins_are o list
     ∙ ap (λ z. is_there (plain_offer o) (map plain_offer z)) view
 
 -- sets that took one more each, beside operations that did

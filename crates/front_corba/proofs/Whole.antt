@@ -11,7 +11,6 @@ use Rattle.aoi.proofs.Plainly.{sound_plain}
 use Rattle.idl_names.proofs.Parts.{then_ok, ok_same}
 use Rattle.idl_names.proofs.Labelling.{or_void_true}
 use Rattle.corba_syntax.specs.declared.definition_tree.Definition.{Definition}
-use Rattle.corba_scopes.specs.Around.{file}
 use Rattle.corba_shapes.proofs.Lasting.{raises_sound}
 use Rattle.corba_shapes.proofs.Keeping.{shapes_of}
 use Rattle.front_corba.specs.State.{PlainOffer, PlainOffering, File, start}
@@ -61,9 +60,9 @@ file_sound s is =
 pub resolved_sound : (tree : List Definition) (u : PlainUnit) → list_all is_whole_outermost tree ≡ true → resolved tree ≡ Ok u
     → is_sound_plain u ≡ true
 resolved_sound tree u whole h =
-    let a = then_ok (definitions_on tree file start) _ u h in
+    let a = then_ok (definitions_on tree start) _ u h in
     subst (λ z. is_sound_plain z ≡ true) (ok_same (unit_of a.given) u a.rest)
-    (file_sound a.given (definitions_keep tree whole file start a.given start_file a.first))
+    (file_sound a.given (definitions_keep tree whole start a.given start_file a.first))
 
 pub unit_sound : (tree : List Definition) (u : Parts) → IsWhole tree → resolved tree ≡ Ok (plain u) → IsSound u
 unit_sound tree u whole h = sound_plain u ∙ resolved_sound tree (plain u) whole h
@@ -75,17 +74,16 @@ ops_few limit [] are = refl
 ops_few limit (i ∷ is) are = and_from _ _ (le-leb (length i.ops) 256 are.0.few) (ops_few limit is are.1)
 
 -- the interfaces of a file fit into a unit
-fit : (tree : List Definition) (s : File) → IsWhole tree → definitions_on tree file start ≡ Ok s → are_fit s.interfaces ≡ true
+fit : (tree : List Definition) (s : File) → IsWhole tree → definitions_on tree start ≡ Ok s → are_fit s.interfaces ≡ true
 fit tree s whole h =
-    let is = definitions_keep tree whole file start s start_file h in
+    let is = definitions_keep tree whole start s start_file h in
     and_from _ _ (and_from _ _ (le-leb (length s.interfaces) 64 is.few) is.apart)
     (ops_few (length (shapes_of s.state)) s.interfaces is.offerings)
 
--- the same of definitions that are walked from the scopes of the file and from nothing
-pub fit_after : (tree list : List Definition) (env : List (List ℕ)) (s out : File) → IsWhole tree → list ≡ tree → env ≡ file → s ≡ start
-    → definitions_on list env s ≡ Ok out → are_fit out.interfaces ≡ true
-fit_after tree list env s out whole is around begun h =
-    let a : definitions_on list file start ≡ definitions_on tree file start = ap (λ z. definitions_on z file start) is in
-    let b : definitions_on list env start ≡ definitions_on list file start = ap (λ z. definitions_on list z start) around in
-    let c : definitions_on list env s ≡ definitions_on list env start = ap (definitions_on list env) begun in
-    fit tree out whole (sym (c ∙ b ∙ a) ∙ h)
+-- the same of definitions that are walked from nothing
+pub fit_after : (tree list : List Definition) (s out : File) → IsWhole tree → list ≡ tree → s ≡ start → definitions_on list s ≡ Ok out
+    → are_fit out.interfaces ≡ true
+fit_after tree list s out whole is begun h =
+    let a : definitions_on list start ≡ definitions_on tree start = ap (λ z. definitions_on z start) is in
+    let b : definitions_on list s ≡ definitions_on list start = ap (definitions_on list) begun in
+    fit tree out whole (sym (b ∙ a) ∙ h)

@@ -1,5 +1,5 @@
 -- The operations of bases.
-use Rattle.std.specs.Prelude.{Bool, ◌&&◌, ◌==◌, nat_eq, ℕ, List, [], ◌∷◌, ◌++◌, Option, Some, None, Ok, slice_get, if◌then◌else◌}
+use Rattle.std.specs.Prelude.{Bool, false, ◌&&◌, ◌==◌, nat_eq, ℕ, List, [], ◌∷◌, ◌++◌, Option, Some, None, Ok, slice_get, if◌then◌else◌}
 use Rattle.std.specs.List.{list_any}
 use Rattle.std.specs.Str.{bytes_eq}
 use Rattle.aoi.specs.declared.faults.NameFault.{NameFault}
@@ -8,16 +8,23 @@ use Rattle.idl_names.specs.Answers.{Answer, fault, and_then}
 use Rattle.corba_syntax.specs.declared.operation_tree.Reference.{Reference}
 use Rattle.corba_scopes.specs.declared.meanings.Meaning.{Meaning}
 use Rattle.corba_scopes.specs.declared.meanings.Meaning.TheVariants as M
-use Rattle.corba_scopes.specs.declared.meanings.Entry.{Entry}
 use Rattle.corba_scopes.specs.Names.{refused_by, lower_of}
-use Rattle.corba_scopes.specs.Around.{prefix_of}
-use Rattle.corba_scopes.specs.Finding.{named, with_base}
-use Rattle.front_corba.specs.State.{PlainOffer, Heirs, PlainOffering, File}
+use Rattle.corba_scopes.specs.Finding.{named, meaning, inheriting}
+use Rattle.front_corba.specs.State.{PlainOffer, Heirs, PlainOffering}
 use Rattle.front_corba.specs.Offers.{operation_clash, added_on}
 
--- an operation is one of these: it is declared in the same interface, by the same name
+-- an operation is another: it is declared in the same interface, by the same name
+abbrev pub is_same : PlainOffer → PlainOffer → Bool
+is_same o p = p.home == o.home && bytes_eq p.operation.name o.operation.name
+
+-- an operation is one of these
 abbrev pub is_there : PlainOffer → List PlainOffer → Bool
-is_there o ops = list_any (λ p. p.home == o.home && bytes_eq p.operation.name o.operation.name) ops
+is_there o ops = list_any (is_same o) ops
+
+-- an operation is this one, if there is one
+abbrev pub is_this : PlainOffer → Option PlainOffer → Bool
+is_this o None = false
+is_this o (Some p) = is_same o p
 
 -- why the operation of a base may not be beside these: another has its name, or has it but for the case of letters
 abbrev pub offer_clash : List PlainOffer → PlainOffer → Option NameFault
@@ -44,30 +51,30 @@ joined_on d ops (Some i) = and_then (refused_by d (base_clash ops i.ops)) (λ _.
 
 -- ---- names
 
--- the number and the full name of an interface
-abbrev pub interface_of_meaning : ℕ → List ℕ → Meaning → Answer (ℕ × List ℕ)
-interface_of_meaning d full (M.Interface k) = Ok (k, full)
-interface_of_meaning d full _ = fault NotType d
+-- the number of an interface
+abbrev pub interface_of_meaning : ℕ → Meaning → Answer ℕ
+interface_of_meaning d (M.Interface k) = Ok k
+interface_of_meaning d _ = fault NotType d
 
-abbrev pub interface_at : ℕ → Option Entry → Answer (ℕ × List ℕ)
+abbrev pub interface_at : ℕ → Option Meaning → Answer ℕ
 interface_at d None = fault Unknown d
-interface_at d (Some e) = interface_of_meaning d e.name e.meaning
+interface_at d (Some m) = interface_of_meaning d m
 
--- a base that is not one of those before it, after them
-abbrev pub new_base : ℕ → File → Heirs → ℕ × List ℕ → Answer Heirs
-new_base d s b i =
-    and_then (joined_on d b.ops (slice_get s.interfaces i.0)) (λ ops.
-    Ok (record { numbers = b.numbers ++ i.0 ∷ []; line = with_base s.state.names (prefix_of i.1) b.line; ops = ops }))
+-- a base that is not one of those before it, after them, and its line after that of the interface by this name
+abbrev pub new_base : ℕ → List ℕ → List PlainOffering → Heirs → Reference → ℕ → Answer Heirs
+new_base d name interfaces b r k =
+    and_then (joined_on d b.ops (slice_get interfaces k)) (λ ops.
+    Ok (record { names = inheriting name (named b.names r.name) b.names; numbers = b.numbers ++ k ∷ []; ops = ops }))
 
 -- a base after those before it; one that comes again adds nothing
-abbrev pub next_base : ℕ → File → Heirs → ℕ × List ℕ → Answer Heirs
-next_base d s b i = if list_any (nat_eq i.0) b.numbers then Ok b else new_base d s b i
+abbrev pub next_base : ℕ → List ℕ → List PlainOffering → Heirs → Reference → ℕ → Answer Heirs
+next_base d name interfaces b r k = if list_any (nat_eq k) b.numbers then Ok b else new_base d name interfaces b r k
 
 -- a base by its name after those before it
-abbrev pub base_on : ℕ → List (List ℕ) → File → Heirs → Reference → Answer Heirs
-base_on d env s b r = and_then (interface_at d (named s.state.names env r.name)) (next_base d s b)
+abbrev pub base_on : ℕ → List ℕ → List PlainOffering → Heirs → Reference → Answer Heirs
+base_on d name interfaces b r = and_then (interface_at d (meaning (named b.names r.name))) (next_base d name interfaces b r)
 
 -- bases after those before them
-abbrev pub bases_on : ℕ → List (List ℕ) → File → Heirs → List Reference → Answer Heirs
-bases_on d env s b [] = Ok b
-bases_on d env s b (r ∷ rs) = and_then (base_on d env s b r) (λ b. bases_on d env s b rs)
+abbrev pub bases_on : ℕ → List ℕ → List PlainOffering → Heirs → List Reference → Answer Heirs
+bases_on d name interfaces b [] = Ok b
+bases_on d name interfaces b (r ∷ rs) = and_then (base_on d name interfaces b r) (λ b. bases_on d name interfaces b rs)

@@ -1,6 +1,7 @@
 -- What the code holds, as plain trees.
 use Rattle.std.specs.Prelude.{List, map}
 use Rattle.aoi.specs.Plain.{plain_operation}
+use Rattle.corba_scopes.specs.Names.{Names}
 use Rattle.corba_shapes.specs.declared.state.Shapes.{Shapes}
 use Rattle.corba_shapes.specs.Held.{state}
 use Rattle.front_corba.specs.declared.state.Offer.{Offer}
@@ -21,9 +22,9 @@ plain_offering i = record { name = i.name; ops = map plain_offer i.ops }
 abbrev pub body : Shapes → List Offer → Body
 body h ops = record { state = state h; ops = map plain_offer ops }
 
--- what an interface has of its bases so far
-abbrev pub heirs : Heir → Heirs
-heirs h = record { numbers = h.numbers.keys; line = h.line; ops = map plain_offer h.ops }
+-- what an interface has of its bases so far, beside these names
+abbrev pub heirs : Names → Heir → Heirs
+heirs names h = record { names = names; numbers = h.numbers.keys; ops = map plain_offer h.ops }
 
 -- a file so far
 abbrev pub held : Resolver → File

@@ -21,9 +21,9 @@ operation_clash name ops =
     else if has (lower name) (map lower (offer_names ops)) then Some CaseClash
     else None
 
--- the lower fault of a name in its scope and beside these operations
-abbrev pub own_clash : Names → List ℕ → List ℕ → List PlainOffer → Option NameFault
-own_clash s scope name ops = lower_of (clash s scope name) (operation_clash name ops)
+-- the lower fault of a name here and beside these operations
+abbrev pub own_clash : Names → List ℕ → List PlainOffer → Option NameFault
+own_clash s name ops = lower_of (clash s name) (operation_clash name ops)
 
 -- an operation at its place: procedures are numbered from 1, slots from 0
 abbrev pub at_place : ℕ → PlainOperation → PlainOperation
@@ -39,9 +39,9 @@ added_on d home o ops =
     and_then (refused Limit d (nat_le most_operations (length ops))) (λ _.
     Ok (ops ++ placed home (length ops) o ∷ []))
 
--- an operation after the others, whose name is declared in its interface's scope
-abbrev pub offered_on : ℕ → List ℕ → ℕ → Body → PlainOperation → Answer Body
-offered_on d scope home b o =
-    and_then (declared_on d b.state.names scope o.name M.Other) (λ names.
+-- an operation after the others, whose name is declared here
+abbrev pub offered_on : ℕ → ℕ → Body → PlainOperation → Answer Body
+offered_on d home b o =
+    and_then (declared_on d b.state.names o.name M.Other) (λ names.
     and_then (added_on d home o b.ops) (λ ops.
     Ok (record { state = record b.state { names = names }; ops = ops })))

@@ -12,10 +12,8 @@ use Rattle.corba_syntax.specs.declared.operation_tree.Parameter.{Parameter}
 use Rattle.corba_syntax.specs.declared.operation_tree.Reference.{Reference}
 use Rattle.corba_scopes.specs.declared.meanings.Meaning.{Meaning}
 use Rattle.corba_scopes.specs.declared.meanings.Meaning.TheVariants as M
-use Rattle.corba_scopes.specs.declared.meanings.Entry.{Entry}
 use Rattle.corba_scopes.specs.Names.{Names, declared_on}
-use Rattle.corba_scopes.specs.Around.{innermost}
-use Rattle.corba_scopes.specs.Finding.{named}
+use Rattle.corba_scopes.specs.Finding.{named, meaning}
 use Rattle.corba_shapes.specs.Forms.{type_form, form_shape}
 
 -- from the client to the server, and from the server to the client
@@ -46,10 +44,10 @@ abbrev pub with_field : Bool → List (List ℕ × Shape) → List ℕ × Shape 
 with_field b fields f = if b then fields ++ f ∷ [] else fields
 
 -- a parameter after the others of its directions; its name is declared after it, and hides others
-abbrev pub parameter_on : List (List ℕ) → ℕ → Parameters → Parameter → Answer Parameters
-parameter_on env d ps p =
-    and_then (type_form ps.names env d p.of.0 p.of.1) (λ f.
-    and_then (declared_on d ps.names (innermost env) p.name.name M.Other) (λ names.
+abbrev pub parameter_on : ℕ → Parameters → Parameter → Answer Parameters
+parameter_on d ps p =
+    and_then (type_form ps.names d p.of.0 p.of.1) (λ f.
+    and_then (declared_on d ps.names p.name.name M.Other) (λ names.
     Ok (record {
       names = names;
       ins = with_field (goes_in p.direction) ps.ins (p.name.name, form_shape f []);
@@ -57,9 +55,9 @@ parameter_on env d ps p =
     })))
 
 -- parameters after those before them
-abbrev pub parameters_on : List (List ℕ) → ℕ → Parameters → List Parameter → Answer Parameters
-parameters_on env d ps [] = Ok ps
-parameters_on env d ps (p ∷ rest) = and_then (parameter_on env d ps p) (λ ps. parameters_on env d ps rest)
+abbrev pub parameters_on : ℕ → Parameters → List Parameter → Answer Parameters
+parameters_on d ps [] = Ok ps
+parameters_on d ps (p ∷ rest) = and_then (parameter_on d ps p) (λ ps. parameters_on d ps rest)
 
 -- ---- exceptions
 
@@ -68,9 +66,9 @@ abbrev pub exception_of_meaning : ℕ → Meaning → Answer ℕ
 exception_of_meaning d (M.Exception k) = Ok k
 exception_of_meaning d _ = fault NotType d
 
-abbrev pub exception_at : ℕ → Option Entry → Answer ℕ
+abbrev pub exception_at : ℕ → Option Meaning → Answer ℕ
 exception_at d None = fault Unknown d
-exception_at d (Some e) = exception_of_meaning d e.meaning
+exception_at d (Some m) = exception_of_meaning d m
 
 -- an exception, if it is there, after the others
 abbrev pub with_raise : List PlainRaise → Option PlainRaise → List PlainRaise
@@ -78,14 +76,13 @@ with_raise raises None = raises
 with_raise raises (Some e) = raises ++ e ∷ []
 
 -- an exception by its name after the others, of which there are at most 4,095
-abbrev pub raised_by : Names → List PlainRaise → List (List ℕ) → ℕ → List PlainRaise → Reference → Answer (List PlainRaise)
-raised_by s exceptions env d raises r =
-    and_then (exception_at d (named s env r.name)) (λ k.
+abbrev pub raised_by : Names → List PlainRaise → ℕ → List PlainRaise → Reference → Answer (List PlainRaise)
+raised_by s exceptions d raises r =
+    and_then (exception_at d (meaning (named s r.name))) (λ k.
     and_then (refused Limit d (nat_le most_raises (length raises))) (λ _.
     Ok (with_raise raises (slice_get exceptions k))))
 
 -- exceptions by their names after those before them
-abbrev pub raises_on : Names → List PlainRaise → List (List ℕ) → ℕ → List PlainRaise → List Reference → Answer (List PlainRaise)
-raises_on s exceptions env d raises [] = Ok raises
-raises_on s exceptions env d raises (r ∷ rs) =
-    and_then (raised_by s exceptions env d raises r) (λ raises. raises_on s exceptions env d raises rs)
+abbrev pub raises_on : Names → List PlainRaise → ℕ → List PlainRaise → List Reference → Answer (List PlainRaise)
+raises_on s exceptions d raises [] = Ok raises
+raises_on s exceptions d raises (r ∷ rs) = and_then (raised_by s exceptions d raises r) (λ raises. raises_on s exceptions d raises rs)

@@ -12,12 +12,10 @@ use Rattle.corba_syntax.specs.declared.definition_tree.Definition.TheOpen.{Defin
 use Rattle.corba_syntax.specs.declared.definition_tree.Module.{Module, fold-Module, out-Module}
 use Rattle.corba_scopes.specs.declared.meanings.Meaning.{Meaning}
 use Rattle.corba_scopes.specs.declared.meanings.Meaning.TheVariants as M
-use Rattle.corba_scopes.specs.declared.meanings.Entry.{Entry}
-use Rattle.corba_scopes.specs.Names.{Names, declared_on}
-use Rattle.corba_scopes.specs.Around.{file, innermost, inside}
-use Rattle.corba_scopes.specs.Finding.{found}
+use Rattle.corba_scopes.specs.Names.{Names, here, entered, left, declared_on}
+use Rattle.corba_scopes.specs.Finding.{found, meaning}
 use Rattle.corba_shapes.specs.Declarations.{declaration_on, is_whole}
-use Rattle.front_corba.specs.State.{PlainOffer, PlainOffering, File, start, next}
+use Rattle.front_corba.specs.State.{PlainOffer, PlainOffering, File, at_names, start, next}
 use Rattle.front_corba.specs.Interfaces.{full_names, interface_on}
 
 -- ---- modules
@@ -27,36 +25,36 @@ is_module_meaning M.Module = true
 is_module_meaning _ = false
 
 -- a name is a module's
-abbrev pub is_module : Option Entry → Bool
+abbrev pub is_module : Option Meaning → Bool
 is_module None = false
-is_module (Some e) = is_module_meaning e.meaning
+is_module (Some m) = is_module_meaning m
 
 -- a module's name may stand for it again; else it is declared
-abbrev pub begun_on : ℕ → Names → List ℕ → List ℕ → Answer Names
-begun_on d s scope name = if is_module (found s scope name) then Ok s else declared_on d s scope name M.Module
+abbrev pub begun_on : ℕ → Names → List ℕ → Answer Names
+begun_on d s name = if is_module (meaning (found s (here s) name)) then Ok s else declared_on d s name M.Module
 
 -- ---- definitions
 
--- what a definition makes of a file so far, by the scopes around it
+-- what a file so far becomes, or its first fault
 abbrev pub Walk : Type 0
-Walk = List (List ℕ) → File → Answer File
+Walk = File → Answer File
 
 -- definitions after what is declared, each a declaration
 abbrev pub walks_on : List Walk → Walk
-walks_on [] env s = Ok s
-walks_on (w ∷ ws) env s = and_then (w env (next s)) (λ s. walks_on ws env s)
+walks_on [] s = Ok s
+walks_on (w ∷ ws) s = and_then (w (next s)) (λ s. walks_on ws s)
 
 -- a module: its name is declared at once, and what is defined in it belongs to its scope
 abbrev pub module_level : Module-F Walk Walk → Walk
-module_level m env s =
-    and_then (begun_on s.state.count s.state.names (innermost env) m.name.name) (λ names.
-    walks_on m.definitions (inside m.name.name env) (record s { state = record s.state { names = names } }))
+module_level m s =
+    and_then (begun_on s.state.count s.state.names m.name.name) (λ names.
+    and_then (walks_on m.definitions (at_names (entered m.name.name names) s)) (λ s.
+    Ok (at_names (left s.state.names) s)))
 
 abbrev pub definition_level : Definition-F Walk Walk → Walk
 definition_level (Definition-F.Module m) = m
-definition_level (Definition-F.Interface i) = λ env s. interface_on s.state.count env s i
-definition_level (Definition-F.Declaration x) = λ env s.
-    and_then (declaration_on s.state.count env s.state x) (λ t. Ok (record s { state = t }))
+definition_level (Definition-F.Interface i) = λ s. interface_on s.state.count s i
+definition_level (Definition-F.Declaration x) = λ s. and_then (declaration_on s.state.count s.state x) (λ t. Ok (record s { state = t }))
 
 -- what a definition makes of a file so far
 abbrev pub walk : Definition → Walk
@@ -97,7 +95,7 @@ unit_of s = record { types = s.state.types; interfaces = interfaces 0 s.interfac
 
 -- the unit of a file, or its first fault
 abbrev pub resolved : List Definition → Answer PlainUnit
-resolved tree = and_then (definitions_on tree file start) (λ s. Ok (unit_of s))
+resolved tree = and_then (definitions_on tree start) (λ s. Ok (unit_of s))
 
 -- interfaces that a unit has room for: at most 64, of different names, each with at most 256 operations
 abbrev pub are_fit : List PlainOffering → Bool

@@ -1,5 +1,5 @@
 -- What a file offers so far.
-use Rattle.std.specs.Prelude.{ℕ, List, [], ◌∷◌}
+use Rattle.std.specs.Prelude.{ℕ, List, []}
 use Rattle.aoi.specs.Plain.{PlainOperation}
 use Rattle.corba_scopes.specs.Names.{Names}
 use Rattle.corba_shapes.specs.State.{State, counted, start as nothing}
@@ -18,15 +18,15 @@ pub record Body : Type 0 where
 abbrev pub with_names : Names → Body → Body
 with_names names b = record b { state = record b.state { names = names } }
 
--- what an interface has of its bases so far: their numbers, the scopes in which its names are found, and its operations
+-- what an interface has of its bases so far: the names with its line, their numbers, and its operations
 pub record Heirs : Type 0 where
+  pub names : Names
   pub numbers : List ℕ
-  pub line : List (List ℕ)
   pub ops : List PlainOffer
 
--- an interface without bases, by its scope
-abbrev pub no_bases : List ℕ → Heirs
-no_bases scope = record { numbers = []; line = scope ∷ []; ops = [] }
+-- an interface without bases, beside these names
+abbrev pub no_bases : Names → Heirs
+no_bases names = record { names = names; numbers = []; ops = [] }
 
 -- an interface: its full name, and its operations, those of its bases first
 pub record PlainOffering : Type 0 where
@@ -37,6 +37,10 @@ pub record PlainOffering : Type 0 where
 pub record File : Type 0 where
   pub state : State
   pub interfaces : List PlainOffering
+
+-- the same with other names
+abbrev pub at_names : Names → File → File
+at_names names s = record s { state = record s.state { names = names } }
 
 -- what is declared before the first declaration
 abbrev pub start : File

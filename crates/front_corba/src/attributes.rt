@@ -4,7 +4,6 @@ ghost use Rattle.std.specs.Prelude.{◌≡◌, [], ◌∷◌, map, IfOk};
 ghost use Rattle.aoi.specs.Shapes.{seen_field};
 ghost use Rattle.aoi.specs.Plain.{plain_operation};
 ghost use Rattle.idl_names.specs.Answers.{Gives};
-ghost use Rattle.corba_scopes.specs.Around.{innermost};
 ghost use Rattle.corba_shapes.specs.Forms.{form_shape};
 ghost use Rattle.front_corba.specs.Held.{plain_offer, body};
 ghost use Rattle.front_corba.specs.Attributes.{getter, setter, get_name, set_name, attribute_clash, attribute_on, attributes_on};
@@ -15,8 +14,8 @@ use crate::operations::operation_of;
 use crate::parameters::field;
 use crate::{NameErr, NameFault};
 use aoi::{Fields, Operation, Raises, Ty};
-use corba_scopes::{Meaning, Scopes, full_name, innermost, lower_of, refuse_fault};
-use corba_shapes::{At, Form, Shapes, form_ty, type_form};
+use corba_scopes::{Meaning, Scopes, full_name, lower_of, refuse_fault};
+use corba_shapes::{Form, Shapes, form_ty, type_form};
 use corba_syntax::Attribute;
 use kit_base::{Name, NoMemory};
 use std::alloc::Global;
@@ -75,27 +74,25 @@ fn setter(alloc: Global, name: &[u8], form: &Form) -> Result<Operation, NoMemory
 fn attribute_clash(
     alloc: Global,
     scopes: &Scopes,
-    scope: &[u8],
     ops: &Offers,
     readonly: bool,
     name: &[u8],
 ) -> Result<Option<NameFault>, NoMemory>
-    ensures { IfOk result (λ f. f
-        ≡ attribute_clash scopes.now scope.now (map plain_offer ops.now) readonly name.now) }
+    ensures { IfOk result (λ f. f ≡ attribute_clash scopes.now (map plain_offer ops.now) readonly name.now) }
 {
-    let f = scopes.clash(alloc, scope, name)?;
-    let g = own_clash(alloc, scopes, scope, get_name(alloc, name)?.as_slice(), ops)?;
+    let f = scopes.clash(alloc, name)?;
+    let g = own_clash(alloc, scopes, get_name(alloc, name)?.as_slice(), ops)?;
     if readonly {
         return Ok(lower_of(f, lower_of(g, None)));
     }
-    let h = own_clash(alloc, scopes, scope, set_name(alloc, name)?.as_slice(), ops)?;
+    let h = own_clash(alloc, scopes, set_name(alloc, name)?.as_slice(), ops)?;
     Ok(lower_of(f, lower_of(g, h)))
 }
 
 /// Declares an attribute: its name, and its operations.
 fn attribute(
     alloc: Global,
-    at: At,
+    d: u32,
     home: u32,
     readonly: bool,
     form: &Form,
@@ -103,40 +100,37 @@ fn attribute(
     ops: &mut Offers,
     name: &[u8],
 ) -> Result<(), NameErr>
-    ensures { Gives (λ _. body shapes.new ops.new) result (attribute_on at.entry.d
-        (innermost at.entry.env.now) home readonly form.now (body shapes.old ops.old) name.now) }
+    ensures { Gives (λ _. body shapes.new ops.new) result
+        (attribute_on d home readonly form.now (body shapes.old ops.old) name.now) }
 {
-    let scope = innermost(at.env);
-    let clash = attribute_clash(alloc, &shapes.scopes, scope, ops, readonly, name)?;
-    refuse_fault(at.d, clash)?;
-    shapes
-        .scopes
-        .declare_new(alloc, at.d, scope, name, Meaning::Other)?;
+    let clash = attribute_clash(alloc, &shapes.scopes, ops, readonly, name)?;
+    refuse_fault(d, clash)?;
+    shapes.scopes.declare_new(alloc, d, name, Meaning::Other)?;
     let get = getter(alloc, name, form)?;
-    offer(alloc, at, home, shapes, ops, get)?;
+    offer(alloc, d, home, shapes, ops, get)?;
     if readonly {
         return Ok(());
     }
     let set = setter(alloc, name, form)?;
-    offer(alloc, at, home, shapes, ops, set)
+    offer(alloc, d, home, shapes, ops, set)
 }
 
 /// Declares attributes of one type.
 pub(crate) fn attributes(
     alloc: Global,
-    at: At,
+    d: u32,
     home: u32,
     shapes: &mut Shapes,
     ops: &mut Offers,
     a: &Attribute,
 ) -> Result<(), NameErr>
     ensures { Gives (λ _. body shapes.new ops.new) result
-        (attributes_on at.entry.d at.entry.env.now home (body shapes.old ops.old) a.now) }
+        (attributes_on d home (body shapes.old ops.old) a.now) }
 {
-    let form = type_form(alloc, &shapes.scopes, at, &a.of)?;
+    let form = type_form(alloc, &shapes.scopes, d, &a.of)?;
     for item in a.names.as_slice() {
         let name = item.name.as_slice();
-        attribute(alloc, at, home, a.readonly, &form, shapes, ops, name)?;
+        attribute(alloc, d, home, a.readonly, &form, shapes, ops, name)?;
     }
     Ok(())
 }

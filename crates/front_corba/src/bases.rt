@@ -4,40 +4,48 @@ ghost use Rattle.std.specs.Prelude.{◌≡◌, nat_eq, false, map, option_copied
 ghost use Rattle.std.specs.List.{list_any};
 ghost use Rattle.std.specs.Option.{option_map};
 ghost use Rattle.idl_names.specs.Answers.{Gives};
-ghost use Rattle.front_corba.specs.Held.{plain_offer, plain_offering, heirs, held};
+ghost use Rattle.front_corba.specs.Held.{plain_offer, plain_offering, heirs};
 ghost use Rattle.front_corba.specs.Bases.{offer_clash, base_clash, inherited, inherited_on, joined_on, interface_at, new_base, base_on, bases_on};
 
 use crate::copies::share_operation;
-use crate::named::Offers;
+use crate::named::{Guess, Offers};
 use crate::offers::{add, operation_clash};
-use crate::state::{Heir, Offer, Offering, Resolver};
+use crate::state::{Heir, Offer, Offering};
 use crate::{NameErr, NameFault};
-use aoi::FullName;
-use corba_scopes::{Entry, Meaning, lower_of, refuse_fault, scope_after};
-use corba_shapes::At;
+use corba_scopes::{Meaning, Scopes, lower_of, refuse_fault};
 use corba_syntax::Reference;
-use idl_names::{add_number, has_number};
+use idl_names::{add_number, fault, has_number};
 use kit_base::NoMemory;
 use std::alloc::Global;
 
 /// Why the operation of a base may not be beside these, or nothing.
-fn offer_clash(alloc: Global, ops: &Offers, offer: &Offer) -> Result<Option<NameFault>, NoMemory>
+fn offer_clash(
+    alloc: Global,
+    ops: &Offers,
+    guess: &mut Guess,
+    offer: &Offer,
+) -> Result<Option<NameFault>, NoMemory>
     ensures { IfOk result (λ f. f ≡ offer_clash (map plain_offer ops.now) (plain_offer offer.now)) }
 {
-    if ops.is_there(alloc, offer)? {
+    if ops.is_there(alloc, guess, offer)? {
         return Ok(None);
     }
     operation_clash(alloc, offer.operation.name.as_slice(), ops)
 }
 
 /// Why the operations of a base may not be beside these, or nothing.
-fn base_clash(alloc: Global, ops: &Offers, base: &[Offer]) -> Result<Option<NameFault>, NoMemory>
+fn base_clash(
+    alloc: Global,
+    ops: &Offers,
+    guess: &mut Guess,
+    base: &[Offer],
+) -> Result<Option<NameFault>, NoMemory>
     ensures { IfOk result (λ f. f ≡ base_clash (map plain_offer ops.now) (map plain_offer base.now)) }
 {
     match base {
         [offer, rest @ ..] => {
-            let f = offer_clash(alloc, ops, offer)?;
-            let g = base_clash(alloc, ops, rest)?;
+            let f = offer_clash(alloc, ops, guess, offer)?;
+            let g = base_clash(alloc, ops, guess, rest)?;
             Ok(lower_of(f, g))
         }
         [] => Ok(None),
@@ -45,11 +53,17 @@ fn base_clash(alloc: Global, ops: &Offers, base: &[Offer]) -> Result<Option<Name
 }
 
 /// Puts the operation of a base after the others, unless it is there.
-fn inherit_one(alloc: Global, d: u32, ops: &mut Offers, offer: &Offer) -> Result<(), NameErr>
+fn inherit_one(
+    alloc: Global,
+    d: u32,
+    ops: &mut Offers,
+    guess: &mut Guess,
+    offer: &Offer,
+) -> Result<(), NameErr>
     ensures { Gives (λ _. map plain_offer ops.new) result
         (inherited d (map plain_offer ops.old) (plain_offer offer.now)) }
 {
-    if ops.is_there(alloc, offer)? {
+    if ops.is_there(alloc, guess, offer)? {
         return Ok(());
     }
     let same = share_operation(&offer.operation)?;
@@ -61,8 +75,9 @@ fn inherit(alloc: Global, d: u32, ops: &mut Offers, base: &[Offer]) -> Result<()
     ensures { Gives (λ _. map plain_offer ops.new) result
         (inherited_on d (map plain_offer ops.old) (map plain_offer base.now)) }
 {
+    let mut guess = Guess::new();
     for offer in base {
-        inherit_one(alloc, d, ops, offer)?;
+        inherit_one(alloc, d, ops, &mut guess, offer)?;
     }
     Ok(())
 }
@@ -76,27 +91,20 @@ fn join(alloc: Global, d: u32, ops: &mut Offers, base: Option<&Offering>) -> Res
         return Ok(());
     };
     let base = base.ops.as_slice();
-    refuse_fault(d, base_clash(alloc, ops, base)?)?;
+    let clash = base_clash(alloc, ops, &mut Guess::new(), base)?;
+    refuse_fault(d, clash)?;
     inherit(alloc, d, ops, base)
 }
 
-/// The number and the full name of an interface.
-fn interface_at(d: u32, entry: Option<Entry>) -> Result<(u32, FullName), NameErr>
-    ensures value { Gives (λ x. x) result (interface_at d entry) }
-    ensures exact { result ≡ interface_at d entry }
+/// The number of an interface.
+fn interface_at(d: u32, given: Option<Meaning>) -> Result<u32, NameErr>
+    ensures value { Gives (λ x. x) result (interface_at d given) }
+    ensures exact { result ≡ interface_at d given }
 {
-    let Some(entry) = entry else {
-        return Err(NameErr {
-            fault: NameFault::Unknown,
-            decl: d,
-        });
-    };
-    match entry.meaning {
-        Meaning::Interface(k) => Ok((k, entry.name)),
-        _ => Err(NameErr {
-            fault: NameFault::NotType,
-            decl: d,
-        }),
+    match given {
+        Some(Meaning::Interface(k)) => Ok(k),
+        Some(_) => Err(fault(NameFault::NotType, d)),
+        None => Err(fault(NameFault::Unknown, d)),
     }
 }
 
@@ -104,18 +112,20 @@ fn interface_at(d: u32, entry: Option<Entry>) -> Result<(u32, FullName), NameErr
 #[tactic(auto, using(crate::proofs::Getting::offering_got))]
 fn new_base(
     alloc: Global,
-    r: &Resolver,
+    scopes: &mut Scopes,
+    interfaces: &[Offering],
     d: u32,
+    name: &[u8],
     heir: &mut Heir,
+    reference: &Reference,
     k: u32,
-    full: &FullName,
 ) -> Result<(), NameErr>
     requires { list_any (nat_eq k) heir.old.numbers.keys ≡ false }
-    ensures { Gives (λ _. heirs heir.new) result (new_base d (held r.now) (heirs heir.old) (k, full.now)) }
+    ensures { Gives (λ _. heirs scopes.new heir.new) result (new_base d name.now
+        (map plain_offering interfaces.now) (heirs scopes.old heir.old) reference.now k) }
 {
-    join(alloc, d, &mut heir.ops, r.interfaces.get(k as usize))?;
-    let scope = scope_after(alloc, full)?;
-    r.shapes.scopes.add_base(&scope, &mut heir.line)?;
+    join(alloc, d, &mut heir.ops, interfaces.get(k as usize))?;
+    scopes.inherit(alloc, name, &reference.name)?;
     add_number(&mut heir.numbers, k)?;
     Ok(())
 }
@@ -123,35 +133,39 @@ fn new_base(
 /// Puts what a base has after what those before it have; one that comes again adds nothing.
 fn base(
     alloc: Global,
-    r: &Resolver,
-    at: At,
+    scopes: &mut Scopes,
+    interfaces: &[Offering],
+    d: u32,
+    name: &[u8],
     heir: &mut Heir,
     reference: &Reference,
 ) -> Result<(), NameErr>
-    ensures { Gives (λ _. heirs heir.new) result
-        (base_on at.entry.d at.entry.env.now (held r.now) (heirs heir.old) reference.now) }
+    ensures { Gives (λ _. heirs scopes.new heir.new) result (base_on d name.now
+        (map plain_offering interfaces.now) (heirs scopes.old heir.old) reference.now) }
 {
-    let entry = r.shapes.scopes.named(alloc, at.env, &reference.name)?;
-    let (k, full) = interface_at(at.d, entry)?;
+    let given = scopes.named(&reference.name);
+    let k = interface_at(d, given)?;
     if has_number(&heir.numbers, k) {
         return Ok(());
     }
-    new_base(alloc, r, at.d, heir, k, &full)
+    new_base(alloc, scopes, interfaces, d, name, heir, reference, k)
 }
 
-/// Puts what bases have after what those before them have.
+/// Puts what bases of the interface by this name have after what those before them have.
 pub(crate) fn bases(
     alloc: Global,
-    r: &Resolver,
-    at: At,
+    scopes: &mut Scopes,
+    interfaces: &[Offering],
+    d: u32,
+    name: &[u8],
     heir: &mut Heir,
     list: &[Reference],
 ) -> Result<(), NameErr>
-    ensures { Gives (λ _. heirs heir.new) result
-        (bases_on at.entry.d at.entry.env.now (held r.now) (heirs heir.old) list.now) }
+    ensures { Gives (λ _. heirs scopes.new heir.new) result (bases_on d name.now
+        (map plain_offering interfaces.now) (heirs scopes.old heir.old) list.now) }
 {
     for reference in list {
-        base(alloc, r, at, heir, reference)?;
+        base(alloc, scopes, interfaces, d, name, heir, reference)?;
     }
     Ok(())
 }

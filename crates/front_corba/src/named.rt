@@ -1,12 +1,13 @@
 //! Operations that are found by their names.
 
-ghost use Rattle.std.specs.Prelude.{◌≡◌, [], ◌∷◌, ◌++◌, map, length, IfOk, OnOk};
+ghost use Rattle.std.specs.Prelude.{◌≡◌, [], ◌∷◌, ◌++◌, map, length, slice_get, IfOk, OnOk};
+ghost use Rattle.std.specs.Option.{is_some};
 ghost use Rattle.idl_names.specs.Names.{has};
 ghost use Rattle.corba_scopes.specs.Names.{lower};
 ghost use Rattle.corba_scopes.specs.Finding.{added};
 ghost use Rattle.front_corba.specs.Held.{plain_offer};
 ghost use Rattle.front_corba.specs.Offers.{offer_names};
-ghost use Rattle.front_corba.specs.Bases.{is_there};
+ghost use Rattle.front_corba.specs.Bases.{is_same, is_this, is_there};
 ghost use Rattle.front_corba.specs.Named.{declares, with_origin};
 
 use crate::state::Offer;
@@ -42,12 +43,12 @@ impl Origins {
         }
     }
 
-    /// Whether an interface declares the name.
-    fn has(&self, alloc: Global, home: u32, name: &[u8]) -> Result<bool, NoMemory>
-        ensures { IfOk result (λ b. b ≡ declares home name.now self.now) }
+    /// Where a name of an interface is, if the interface declares it.
+    fn place(&self, alloc: Global, home: u32, name: &[u8]) -> Result<Option<usize>, NoMemory>
+        ensures { IfOk result (λ place. is_some place ≡ declares home name.now self.now) }
     {
         let key = (home, Vec::from_slice(alloc, name)?);
-        Ok(self.keys.contains(&key))
+        Ok(self.keys.get_index_of(&key))
     }
 
     /// Puts a name of an interface after the others, unless it is there.
@@ -87,6 +88,32 @@ fn index(
     mark(alloc, names, name)?;
     mark(alloc, folded, small.as_slice())?;
     origins.add(alloc, home, name)
+}
+
+/// Where the next operation of a base is guessed to be: those of a base mostly stand in its order.
+#[derive(Drop)]
+pub(crate) struct Guess {
+    /// The place.
+    place: usize,
+}
+
+impl Guess {
+    /// The first place.
+    pub(crate) fn new() -> Guess {
+        Guess { place: 0 }
+    }
+
+    /// The next operation is guessed after this place.
+    fn pass(&mut self, place: usize) {
+        self.place = place.saturating_add(1);
+    }
+}
+
+/// Whether two operations are one: by the interface that declares each, and by their names.
+fn is_same(offer: &Offer, other: &Offer) -> bool
+    ensures { result ≡ is_same (plain_offer offer.now) (plain_offer other.now) }
+{
+    other.home == offer.home && other.operation.name.as_slice() == offer.operation.name.as_slice()
 }
 
 /// The operations of an interface in order, found by their names.
@@ -160,12 +187,38 @@ impl Offers {
         self.folded.has(small)
     }
 
-    /// Whether an operation is one of these: by the interface that declares it, and its name.
-    pub(crate) fn is_there(&self, alloc: Global, offer: &Offer) -> Result<bool, NoMemory>
+    /// Whether an operation is the one at a place: by the interface that declares it, and its name.
+    fn is_at(&self, place: usize, offer: &Offer) -> bool
+        ensures { result ≡ is_this (plain_offer offer.now) (slice_get (map plain_offer self.now) place) }
+    {
+        match self.list.get(place) {
+            Some(other) => is_same(offer, other),
+            None => false,
+        }
+    }
+
+    /// Whether an operation is one of these: by the interface that declares it, and its name. It is looked for where
+    /// it is guessed first.
+    pub(crate) fn is_there(
+        &self,
+        alloc: Global,
+        guess: &mut Guess,
+        offer: &Offer,
+    ) -> Result<bool, NoMemory>
         ensures { IfOk result (λ b. b ≡ is_there (plain_offer offer.now) (map plain_offer self.now)) }
     {
-        self.origins
-            .has(alloc, offer.home, offer.operation.name.as_slice())
+        if self.is_at(guess.place, offer) {
+            guess.pass(guess.place);
+            return Ok(true);
+        }
+        let name = offer.operation.name.as_slice();
+        match self.origins.place(alloc, offer.home, name)? {
+            Some(place) => {
+                guess.pass(place);
+                Ok(true)
+            }
+            None => Ok(false),
+        }
     }
 
     /// These, with an operation after them.

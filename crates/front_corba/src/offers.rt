@@ -4,7 +4,6 @@ ghost use Rattle.std.specs.Prelude.{◌≡◌, ◌≤◌, map, IfOk};
 ghost use Rattle.kit_base.specs.Limits.{most_operations};
 ghost use Rattle.aoi.specs.Plain.{plain_operation};
 ghost use Rattle.idl_names.specs.Answers.{Gives};
-ghost use Rattle.corba_scopes.specs.Around.{innermost};
 ghost use Rattle.front_corba.specs.Held.{plain_offer, body};
 ghost use Rattle.front_corba.specs.Offers.{operation_clash, own_clash, placed, added_on, offered_on};
 
@@ -12,8 +11,8 @@ use crate::named::Offers;
 use crate::state::Offer;
 use crate::{NameErr, NameFault};
 use aoi::Operation;
-use corba_scopes::{Meaning, Scopes, innermost, lower_of};
-use corba_shapes::{At, Shapes};
+use corba_scopes::{Meaning, Scopes, lower_of};
+use corba_shapes::Shapes;
 use kit_base::NoMemory;
 use kit_base::limits::MOST_OPERATIONS;
 use std::alloc::Global;
@@ -36,17 +35,16 @@ pub(crate) fn operation_clash(
     Ok(None)
 }
 
-/// Why no operation of a scope may have a name beside these, or nothing.
+/// Why no operation may have a name here and beside these, or nothing.
 pub(crate) fn own_clash(
     alloc: Global,
     scopes: &Scopes,
-    scope: &[u8],
     name: &[u8],
     ops: &Offers,
 ) -> Result<Option<NameFault>, NoMemory>
-    ensures { IfOk result (λ f. f ≡ own_clash scopes.now scope.now name.now (map plain_offer ops.now)) }
+    ensures { IfOk result (λ f. f ≡ own_clash scopes.now name.now (map plain_offer ops.now)) }
 {
-    let f = scopes.clash(alloc, scope, name)?;
+    let f = scopes.clash(alloc, name)?;
     let g = operation_clash(alloc, name, ops)?;
     Ok(lower_of(f, g))
 }
@@ -83,21 +81,19 @@ pub(crate) fn add(
     Ok(())
 }
 
-/// Declares the name of an operation at a place, and puts the operation after the others.
+/// Declares the name of an operation here, and puts the operation after the others.
 pub(crate) fn offer(
     alloc: Global,
-    at: At,
+    d: u32,
     home: u32,
     shapes: &mut Shapes,
     ops: &mut Offers,
     operation: Operation,
 ) -> Result<(), NameErr>
-    ensures { Gives (λ _. body shapes.new ops.new) result (offered_on at.entry.d
-        (innermost at.entry.env.now) home (body shapes.old ops.old) (plain_operation operation)) }
+    ensures { Gives (λ _. body shapes.new ops.new) result
+        (offered_on d home (body shapes.old ops.old) (plain_operation operation)) }
 {
     let name = operation.name.as_slice();
-    shapes
-        .scopes
-        .declare_new(alloc, at.d, innermost(at.env), name, Meaning::Other)?;
-    add(alloc, at.d, home, operation, ops)
+    shapes.scopes.declare_new(alloc, d, name, Meaning::Other)?;
+    add(alloc, d, home, operation, ops)
 }

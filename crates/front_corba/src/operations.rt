@@ -15,8 +15,8 @@ use crate::parameters::{are_in, parameters, raises};
 use crate::{NameErr, NameFault};
 use aoi::{Fields, Operation, Raises, Ty};
 use corba_decls::TypeName;
-use corba_scopes::{Scopes, innermost, inside, refuse_fault};
-use corba_shapes::{At, Shapes, form_ty, type_form};
+use corba_scopes::{Scopes, refuse_fault};
+use corba_shapes::{Shapes, form_ty, type_form};
 use corba_syntax::{Operation as OperationTree, Reference};
 use idl_names::refuse;
 use kit_base::limits::MOST_OPERATIONS;
@@ -45,15 +45,15 @@ fn gives_back(o: &OperationTree) -> bool
 fn result_of(
     alloc: Global,
     scopes: &Scopes,
-    at: At,
+    d: u32,
     given: &Option<TypeName>,
 ) -> Result<Ty, NameErr>
-    ensures { Gives seen result (result_of scopes.now at.entry.env.now at.entry.d given.now) }
+    ensures { Gives seen result (result_of scopes.now d given.now) }
 {
     match given {
         None => Ok(Ty::Void),
         Some(t) => {
-            let form = type_form(alloc, scopes, at, t)?;
+            let form = type_form(alloc, scopes, d, t)?;
             Ok(form_ty(alloc, &form, &[])?)
         }
     }
@@ -95,45 +95,43 @@ fn breaks_oneway(o: &OperationTree) -> bool
 fn judged(
     alloc: Global,
     scopes: &Scopes,
-    at: At,
+    d: u32,
     ops: &Offers,
     o: &OperationTree,
 ) -> Result<Ty, NameErr>
-    ensures { Gives seen result
-        (judged_on at.entry.d at.entry.env.now scopes.now (map plain_offer ops.now) o.now) }
+    ensures { Gives seen result (judged_on d scopes.now (map plain_offer ops.now) o.now) }
 {
-    refuse(NameFault::Oneway, at.d, breaks_oneway(o))?;
-    let ty = result_of(alloc, scopes, at, &o.result)?;
-    let name = o.name.name.as_slice();
-    let clash = own_clash(alloc, scopes, innermost(at.env), name, ops)?;
-    refuse_fault(at.d, clash)?;
-    refuse(NameFault::Limit, at.d, ops.len() >= MOST_OPERATIONS)?;
+    refuse(NameFault::Oneway, d, breaks_oneway(o))?;
+    let ty = result_of(alloc, scopes, d, &o.result)?;
+    let clash = own_clash(alloc, scopes, o.name.name.as_slice(), ops)?;
+    refuse_fault(d, clash)?;
+    refuse(NameFault::Limit, d, ops.len() >= MOST_OPERATIONS)?;
     Ok(ty)
 }
 
-/// An operation of a result; its parameters are declared in its own scope.
+/// An operation of a result, whose parameters are declared here, in its own scope.
 fn signed(
     alloc: Global,
     scopes: &mut Scopes,
     exceptions: &Raises,
-    at: At,
+    d: u32,
     o: &OperationTree,
     ty: Ty,
 ) -> Result<Operation, NameErr>
     ensures { Gives (λ p. (scopes.new, plain_operation p)) result
-        (signed_on at.entry.d at.entry.env.now scopes.old (map plain_raise exceptions.now) o.now (seen ty)) }
+        (signed_on d scopes.old (map plain_raise exceptions.now) o.now (seen ty)) }
 {
     let mut ins = Fields::new(alloc);
     let mut outs = Fields::new(alloc);
     parameters(
         alloc,
         scopes,
-        at,
+        d,
         &mut ins,
         &mut outs,
         o.parameters.as_slice(),
     )?;
-    let raises = raises(alloc, scopes, exceptions, at, o.raises.as_slice())?;
+    let raises = raises(alloc, scopes, exceptions, d, o.raises.as_slice())?;
     let name = copy_name(alloc, o.name.name.as_slice())?;
     Ok(operation_of(alloc, name, o.oneway, ins, outs, ty, raises)?)
 }
@@ -141,21 +139,18 @@ fn signed(
 /// Declares an operation, and at its end its name.
 pub(crate) fn operation(
     alloc: Global,
-    at: At,
+    d: u32,
     home: u32,
     shapes: &mut Shapes,
     ops: &mut Offers,
     o: &OperationTree,
 ) -> Result<(), NameErr>
     ensures { Gives (λ _. body shapes.new ops.new) result
-        (operation_on at.entry.d at.entry.env.now home (body shapes.old ops.old) o.now) }
+        (operation_on d home (body shapes.old ops.old) o.now) }
 {
-    let ty = judged(alloc, &shapes.scopes, at, ops, o)?;
-    let inner = inside(alloc, at.env, o.name.name.as_slice())?;
-    let inner = At {
-        env: inner.as_slice(),
-        d: at.d,
-    };
-    let made = signed(alloc, &mut shapes.scopes, &shapes.exceptions, inner, o, ty)?;
-    offer(alloc, at, home, shapes, ops, made)
+    let ty = judged(alloc, &shapes.scopes, d, ops, o)?;
+    shapes.scopes.enter(alloc, o.name.name.as_slice())?;
+    let made = signed(alloc, &mut shapes.scopes, &shapes.exceptions, d, o, ty)?;
+    shapes.scopes.leave();
+    offer(alloc, d, home, shapes, ops, made)
 }

@@ -11,10 +11,10 @@ ghost use Rattle.front_corba.specs.Parameters.{goes_in, comes_out, are_in, with_
 use crate::copies::{copy_name, share_raise};
 use crate::{NameErr, NameFault};
 use aoi::{Field, Fields, Raise, Raises};
-use corba_scopes::{Entry, Meaning, Scopes, innermost};
-use corba_shapes::{At, Form, form_ty, type_form};
+use corba_scopes::{Meaning, Scopes};
+use corba_shapes::{Form, form_ty, type_form};
 use corba_syntax::{Direction, Parameter, Reference};
-use idl_names::refuse;
+use idl_names::{fault, refuse};
 use kit_base::NoMemory;
 use kit_base::limits::MOST_RAISES;
 use std::alloc::Global;
@@ -82,19 +82,19 @@ fn add_field(
 fn parameter(
     alloc: Global,
     scopes: &mut Scopes,
-    at: At,
+    d: u32,
     ins: &mut Fields,
     outs: &mut Fields,
     p: &Parameter,
 ) -> Result<(), NameErr>
     ensures { Gives
         (λ _. record { names = scopes.new; ins = map seen_field ins.new; outs = map seen_field outs.new })
-        result (parameter_on at.entry.env.now at.entry.d
+        result (parameter_on d
         (record { names = scopes.old; ins = map seen_field ins.old; outs = map seen_field outs.old }) p.now) }
 {
-    let form = type_form(alloc, scopes, at, &p.of)?;
+    let form = type_form(alloc, scopes, d, &p.of)?;
     let name = p.name.name.as_slice();
-    scopes.declare_new(alloc, at.d, innermost(at.env), name, Meaning::Other)?;
+    scopes.declare_new(alloc, d, name, Meaning::Other)?;
     add_field(alloc, goes_in(p.direction), ins, name, &form)?;
     add_field(alloc, comes_out(p.direction), outs, name, &form)?;
     Ok(())
@@ -104,40 +104,32 @@ fn parameter(
 pub(crate) fn parameters(
     alloc: Global,
     scopes: &mut Scopes,
-    at: At,
+    d: u32,
     ins: &mut Fields,
     outs: &mut Fields,
     list: &[Parameter],
 ) -> Result<(), NameErr>
     ensures { Gives
         (λ _. record { names = scopes.new; ins = map seen_field ins.new; outs = map seen_field outs.new })
-        result (parameters_on at.entry.env.now at.entry.d
+        result (parameters_on d
         (record { names = scopes.old; ins = map seen_field ins.old; outs = map seen_field outs.old })
         list.now) }
 {
     for p in list {
-        parameter(alloc, scopes, at, ins, outs, p)?;
+        parameter(alloc, scopes, d, ins, outs, p)?;
     }
     Ok(())
 }
 
 /// The number of an exception.
-fn exception_at(d: u32, entry: &Option<Entry>) -> Result<u32, NameErr>
-    ensures value { Gives (λ x. x) result (exception_at d entry.now) }
-    ensures exact { result ≡ exception_at d entry.now }
+fn exception_at(d: u32, given: Option<Meaning>) -> Result<u32, NameErr>
+    ensures value { Gives (λ x. x) result (exception_at d given) }
+    ensures exact { result ≡ exception_at d given }
 {
-    let Some(entry) = entry else {
-        return Err(NameErr {
-            fault: NameFault::Unknown,
-            decl: d,
-        });
-    };
-    match entry.meaning {
-        Meaning::Exception(k) => Ok(k),
-        _ => Err(NameErr {
-            fault: NameFault::NotType,
-            decl: d,
-        }),
+    match given {
+        Some(Meaning::Exception(k)) => Ok(k),
+        Some(_) => Err(fault(NameFault::NotType, d)),
+        None => Err(fault(NameFault::Unknown, d)),
     }
 }
 
@@ -158,17 +150,16 @@ fn raise(
     alloc: Global,
     scopes: &Scopes,
     exceptions: &Raises,
-    at: At,
+    d: u32,
     raises: &mut Raises,
     reference: &Reference,
 ) -> Result<(), NameErr>
     ensures { Gives (λ _. map plain_raise raises.new) result
-        (raised_by scopes.now (map plain_raise exceptions.now) at.entry.env.now at.entry.d
-        (map plain_raise raises.old) reference.now) }
+        (raised_by scopes.now (map plain_raise exceptions.now) d (map plain_raise raises.old) reference.now) }
 {
-    let entry = scopes.named(alloc, at.env, &reference.name)?;
-    let k = exception_at(at.d, &entry)?;
-    refuse(NameFault::Limit, at.d, raises.len() >= MOST_RAISES)?;
+    let given = scopes.named(&reference.name);
+    let k = exception_at(d, given)?;
+    refuse(NameFault::Limit, d, raises.len() >= MOST_RAISES)?;
     add_raise(raises, exceptions.get(k as usize))?;
     Ok(())
 }
@@ -178,15 +169,15 @@ pub(crate) fn raises(
     alloc: Global,
     scopes: &Scopes,
     exceptions: &Raises,
-    at: At,
+    d: u32,
     list: &[Reference],
 ) -> Result<Raises, NameErr>
     ensures { Gives (map plain_raise) result
-        (raises_on scopes.now (map plain_raise exceptions.now) at.entry.env.now at.entry.d [] list.now) }
+        (raises_on scopes.now (map plain_raise exceptions.now) d [] list.now) }
 {
     let mut raises = Raises::new(alloc);
     for reference in list {
-        raise(alloc, scopes, exceptions, at, &mut raises, reference)?;
+        raise(alloc, scopes, exceptions, d, &mut raises, reference)?;
     }
     Ok(raises)
 }

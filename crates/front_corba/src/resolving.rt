@@ -8,7 +8,6 @@ ghost use Rattle.aoi.specs.Plain.{plain, plain_operation, plain_interface};
 ghost use Rattle.aoi.specs.Sound.{IsSound};
 ghost use Rattle.aoi.specs.declared.faults.NameFault.TheVariants.{NoMemory as OutOfMemory};
 ghost use Rattle.idl_names.specs.Answers.{Gives};
-ghost use Rattle.corba_scopes.specs.Around.{innermost};
 ghost use Rattle.kit_base.specs.Limits.{most_interfaces, most_operations};
 ghost use Rattle.aoi.specs.Units.{is_twice};
 ghost use Rattle.front_corba.specs.Held.{plain_offer, plain_offering, held};
@@ -19,82 +18,64 @@ use crate::copies::share_operation;
 use crate::interfaces::interface;
 use crate::state::{Offer, Offering, Resolver};
 use aoi::{Interface, Operations, Unit, UnitErr};
-use corba_scopes::{Entry, Meaning, Scope, Scopes, innermost, inside, of_file};
-use corba_shapes::{At, declare};
+use corba_scopes::{Meaning, Scopes};
+use corba_shapes::declare;
 use corba_syntax::{Definition, Module, Tree};
 use kit_base::NoMemory;
 use std::alloc::Global;
 
 /// Whether a name is that of a module.
-fn is_module(entry: &Option<Entry>) -> bool
-    ensures { result ≡ is_module entry.now }
+fn is_module(given: Option<Meaning>) -> bool
+    ensures { result ≡ is_module given }
 {
-    match entry {
-        Some(entry) => matches!(entry.meaning, Meaning::Module),
-        None => false,
-    }
+    matches!(given, Some(Meaning::Module))
 }
 
 /// Begins a module, or goes on with it.
-fn begin(
-    alloc: Global,
-    scopes: &mut Scopes,
-    d: u32,
-    env: &[Scope],
-    name: &[u8],
-) -> Result<(), NameErr>
-    ensures { Gives (λ _. scopes.new) result (begun_on d scopes.old (innermost env.now) name.now) }
+fn begin(alloc: Global, scopes: &mut Scopes, d: u32, name: &[u8]) -> Result<(), NameErr>
+    ensures { Gives (λ _. scopes.new) result (begun_on d scopes.old name.now) }
 {
-    let entry = scopes.found_in(alloc, env, name)?;
-    if is_module(&entry) {
+    if is_module(scopes.found_here(name)) {
         return Ok(());
     }
-    scopes.declare_new(alloc, d, innermost(env), name, Meaning::Module)
+    scopes.declare_new(alloc, d, name, Meaning::Module)
 }
 
 /// Declares a module, and what is defined in it.
 #[cycle(definitions)]
-fn module(alloc: Global, r: &mut Resolver, env: &[Scope], m: &Module) -> Result<(), NameErr>
-    ensures { Gives (λ _. held r.new) result (module_walk m.now env.now (held r.old)) }
+fn module(alloc: Global, r: &mut Resolver, m: &Module) -> Result<(), NameErr>
+    ensures { Gives (λ _. held r.new) result (module_walk m.now (held r.old)) }
 {
     let d = r.shapes.count;
     let name = m.name.name.as_slice();
-    begin(alloc, &mut r.shapes.scopes, d, env, name)?;
-    let inner = inside(alloc, env, name)?;
-    define_all(alloc, r, inner.as_slice(), m.definitions.as_slice())
+    begin(alloc, &mut r.shapes.scopes, d, name)?;
+    r.shapes.scopes.enter(alloc, name)?;
+    define_all(alloc, r, m.definitions.as_slice())?;
+    r.shapes.scopes.leave();
+    Ok(())
 }
 
 /// Declares what a definition declares.
 #[cycle(definitions)]
-fn define(alloc: Global, r: &mut Resolver, env: &[Scope], def: &Definition) -> Result<(), NameErr>
-    ensures { Gives (λ _. held r.new) result (walk def.now env.now (held r.old)) }
+fn define(alloc: Global, r: &mut Resolver, def: &Definition) -> Result<(), NameErr>
+    ensures { Gives (λ _. held r.new) result (walk def.now (held r.old)) }
 {
+    let d = r.shapes.count;
     match def {
-        Definition::Module(m) => module(alloc, r, env, m),
-        Definition::Interface(i) => {
-            let d = r.shapes.count;
-            interface(alloc, r, At { env, d }, i)
-        }
-        Definition::Declaration(x) => {
-            let d = r.shapes.count;
-            declare(alloc, &mut r.shapes, At { env, d }, x)
-        }
+        Definition::Module(m) => module(alloc, r, m),
+        Definition::Interface(i) => interface(alloc, r, d, i),
+        Definition::Declaration(x) => declare(alloc, &mut r.shapes, d, x),
     }
 }
 
 /// Declares what definitions declare, in order; each is one more declaration.
 #[cycle(definitions)]
-fn define_all(
-    alloc: Global,
-    r: &mut Resolver,
-    env: &[Scope],
-    list: &[Definition],
-) -> Result<(), NameErr>
-    ensures { Gives (λ _. held r.new) result (definitions_on list.now env.now (held r.old)) }
+fn define_all(alloc: Global, r: &mut Resolver, list: &[Definition]) -> Result<(), NameErr>
+    ensures { Gives (λ _. held r.new) result (definitions_on list.now (held r.old)) }
 {
     for def in list {
         let _ = r.shapes.next()?;
-        define(alloc, r, env, def)?;
+        define(alloc, r, def)?;
     }
     Ok(())
 }
@@ -180,8 +161,7 @@ pub fn resolve(alloc: Global, tree: &Tree) -> Result<Unit, NameErr>
     ensures stop { IfErr result (λ e. (e.fault ≡ OutOfMemory) ⊎ (resolved tree.now ≡ Err e)) }
 {
     let mut r = Resolver::new(alloc);
-    let env = of_file(alloc)?;
-    define_all(alloc, &mut r, env.as_slice(), tree.as_slice())?;
+    define_all(alloc, &mut r, tree.as_slice())?;
     unit_of(alloc, r)
 }
 

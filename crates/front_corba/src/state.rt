@@ -1,15 +1,14 @@
 //! What a file offers so far.
 
-ghost use Rattle.std.specs.Prelude.{◌≡◌, IfOk};
-ghost use Rattle.front_corba.specs.Held.{heirs, held};
-ghost use Rattle.front_corba.specs.State.{start, no_bases};
+ghost use Rattle.std.specs.Prelude.{◌≡◌, []};
+ghost use Rattle.front_corba.specs.Held.{held};
+ghost use Rattle.front_corba.specs.State.{start};
 
 use crate::named::Offers;
 use aoi::Operation;
-use corba_scopes::BaseOrder;
 use corba_shapes::Shapes;
 use indexmap::IndexSet;
-use kit_base::{Listed, Name, NoMemory};
+use kit_base::{Listed, Name};
 use kit_shared::Shared;
 use std::alloc::Global;
 
@@ -36,8 +35,6 @@ pub(crate) struct Offering {
 pub(crate) struct Heir {
     /// The bases, by their numbers.
     pub(crate) numbers: IndexSet<u32>,
-    /// The scopes in which its names are found.
-    pub(crate) line: BaseOrder,
     /// Its operations.
     pub(crate) ops: Offers,
 }
@@ -52,15 +49,15 @@ pub(crate) struct Resolver {
 }
 
 impl Heir {
-    /// An interface without bases, by its scope.
-    pub(crate) fn of(alloc: Global, scope: &[u8]) -> Result<Heir, NoMemory>
-        ensures { IfOk result (λ h. heirs h ≡ no_bases scope.now) }
+    /// An interface without bases.
+    pub(crate) fn new(alloc: Global) -> Heir
+        ensures numbers { result.numbers.keys ≡ [] }
+        ensures ops { result.ops ≡ [] }
     {
-        Ok(Heir {
+        Heir {
             numbers: IndexSet::new(alloc),
-            line: BaseOrder::of(alloc, scope)?,
             ops: Offers::new(alloc),
-        })
+        }
     }
 }
 

@@ -7,9 +7,9 @@ use Rattle.corba_shapes.proofs.unions.cases.Given as goal
 
 abbrev pub invariant-loop-c : goal.invariant-loop-c
 invariant-loop-c l =
-    cases_on l.labels.keys l.tag l.at.env.now l.at.d
+    cases_on l.labels.keys l.tag l.d
     (record { names = l.initial.scopes; numbers = l.initial.numbers.keys; arms = []; other = None }) l.list
-    ≡ cases_on l.labels.keys l.tag l.at.env.now l.at.d
+    ≡ cases_on l.labels.keys l.tag l.d
     (record {
       names = l.scopes;
       numbers = l.numbers.keys;

@@ -4,6 +4,6 @@ use Rattle.corba_shapes.proofs.unions.labels_of.Given as goal
 
 abbrev pub invariant-loop-l : goal.invariant-loop-l
 invariant-loop-l l =
-    labels_on l.scopes l.labels.keys l.tag l.at.env.now l.at.d (record { numbers = l.initial.numbers.keys; default = l.default }) l.list
-    ≡ labels_on l.scopes l.labels.keys l.tag l.at.env.now l.at.d (record { numbers = l.numbers.keys; default = l.given })
+    labels_on l.scopes l.labels.keys l.tag l.d (record { numbers = l.initial.numbers.keys; default = l.default }) l.list
+    ≡ labels_on l.scopes l.labels.keys l.tag l.d (record { numbers = l.numbers.keys; default = l.given })
     (drop l.l-index l.list)

@@ -1,12 +1,5 @@
-use Rattle.corba_scopes.proofs.Parting.{set_puts, number_kept}
+use Rattle.corba_scopes.proofs.Parting.{set_puts}
 use Rattle.corba_scopes.proofs.texts.Texts.extended.Goals as goal
-
-pub invariant_of-result : goal.invariant_of-result
-invariant_of-result c =
-    let puts = set_puts (λ k. k.items) c.self.inside.set.keys c.insert.new.self.keys c.in_ok-from_slice.field-0 c.args.text.now
-    c.args.self c.len-last.result c.in_ok-insert.ensures.keys c.in_ok-from_slice.ensures.items c.self.view_is c.requires
-    c.len-last.ensures.len in
-    number_kept c.args.text.now _ c.len-last.result puts.number
 
 pub returns : goal.returns
 returns c =

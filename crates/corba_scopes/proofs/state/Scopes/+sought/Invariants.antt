@@ -1,5 +1,0 @@
-use Rattle.std.proofs.Common.{length}
-use Rattle.corba_scopes.proofs.state.Scopes.+sought.Given as goal
-
-abbrev pub decreases-sought : goal.decreases-sought
-decreases-sought l = length l.env.now
