@@ -69,7 +69,7 @@ fn chunks_of(
     requires few { length octets.now < 2 ^ 32 }
     ensures { IfOk result (λ code. IsCoded order place octets.now code) }
 {
-    let mut ops = SendOps::new(alloc);
+    let mut ops = SendOps::with_room(alloc, 3)?;
     ops.push(constant(alloc, before_id(alloc, place, octets)?)?)?;
     ops.push(id(alloc, order)?)?;
     ops.push(constant(alloc, octets.after(alloc, place + 4)?)?)?;

@@ -22,7 +22,7 @@ use Rattle.stub_lower.specs.Leads.{Leads, AreChunks}
 use Rattle.back_mach.specs.declared.routines.Routine.{Routine}
 use Rattle.back_mach.specs.Reply.{return_word}
 use Rattle.back_mach.specs.Words.{word, words}
-use Rattle.back_mach.specs.Leads.{lead, reply_id, reply_lead, reply_lead_length}
+use Rattle.back_mach.specs.Leads.{lead, reply_form, reply_lead_length}
 use Rattle.back_mach.specs.Coded.{IsChunk, request_puts, last_words, reply_puts}
 
 pub ruleset coding = (seen-Chunk)
@@ -38,10 +38,10 @@ asking : (id : ℕ) (wants : Bool) (h : Head) (v : Val) → IsHead h
 asking id true h v fits = rw (word_of h.remote fits.remote, word_of h.local fits.local) refl
 asking id false h v fits = rw (word_of h.remote fits.remote) refl
 
-answering : (r : Routine) (arms arm : ℕ) (h : Head) (v : Val) → IsHead h
-    → filled (reply_lead_length arms) (reply_puts r arms arm) h v ≡ Some (reply_lead r arms arm h)
-answering r zero arm h v fits = rw (word_of h.remote fits.remote) refl
-answering r (suc n) arm h v fits = rw (word_of h.remote fits.remote) refl
+answering : (arms arm : ℕ) (h : Head) (v : Val) → IsHead h
+    → filled (reply_lead_length arms) (reply_puts arms arm) h v ≡ Some (reply_form arms arm h)
+answering zero arm h v fits = rw (word_of h.remote fits.remote, word_of h.id fits.id) refl
+answering (suc n) arm h v fits = rw (word_of h.remote fits.remote, word_of h.id fits.id) refl
 
 chunk_leads : (c : Calls) (h : Head) (v : Val) (p s : ℕ) (ps : List Put) (os : List ℕ) → filled s ps h v ≡ Some os
     → on_some (steps c h (chunk s ps stop) v) (wrote p []) ≡ Some os
@@ -59,9 +59,8 @@ request_chunks : (id : ℕ) (wants : Bool) (code : SendCode) → IsChunk 24 (req
 request_chunks id true code is = (4, rw is refl, omega arith)
 request_chunks id false code is = (3, rw is refl, omega arith)
 
-reply_chunks : (r : Routine) (arms arm : ℕ) (code : SendCode) → IsChunk (reply_lead_length arms) (reply_puts r arms arm) code
-    → AreChunks code
-reply_chunks r arms arm code is = (3, rw is refl, omega arith)
+reply_chunks : (arms arm : ℕ) (code : SendCode) → IsChunk (reply_lead_length arms) (reply_puts arms arm) code → AreChunks code
+reply_chunks arms arm code is = (5, rw is refl, omega arith)
 
 -- ---- of what was made
 
@@ -74,22 +73,21 @@ pub requests_chunk : (d : Result SendCode NoMemory) (r : Routine) → IfOk d (λ
 requests_chunk (Ok code) r is = request_chunks r.id r.wants code is
 requests_chunk (Err e) r is = tt
 
-pub replies_lead : (d : Result SendCode NoMemory) (r : Routine) (arms arm : ℕ)
-    → IfOk d (λ code. IsChunk (reply_lead_length arms) (reply_puts r arms arm) code)
-    → IfOk d (λ code. Leads (λ h. reply_lead r arms arm h) code)
-replies_lead (Ok code) r arms arm is =
-    coded_leads (reply_lead_length arms) (reply_puts r arms arm) (reply_lead r arms arm) code (answering r arms arm) is
-replies_lead (Err e) r arms arm is = tt
+pub replies_lead : (d : Result SendCode NoMemory) (arms arm : ℕ)
+    → IfOk d (λ code. IsChunk (reply_lead_length arms) (reply_puts arms arm) code)
+    → IfOk d (λ code. Leads (λ h. reply_form arms arm h) code)
+replies_lead (Ok code) arms arm is =
+    coded_leads (reply_lead_length arms) (reply_puts arms arm) (reply_form arms arm) code (answering arms arm) is
+replies_lead (Err e) arms arm is = tt
 
-pub replies_chunk : (d : Result SendCode NoMemory) (r : Routine) (arms arm : ℕ)
-    → IfOk d (λ code. IsChunk (reply_lead_length arms) (reply_puts r arms arm) code) → IfOk d AreChunks
-replies_chunk (Ok code) r arms arm is = reply_chunks r arms arm code is
-replies_chunk (Err e) r arms arm is = tt
+pub replies_chunk : (d : Result SendCode NoMemory) (arms arm : ℕ)
+    → IfOk d (λ code. IsChunk (reply_lead_length arms) (reply_puts arms arm) code) → IfOk d AreChunks
+replies_chunk (Ok code) arms arm is = reply_chunks arms arm code is
+replies_chunk (Err e) arms arm is = tt
 
 -- the words with an arm, where exceptions are raised
-pub last_made : (d : Result Put NoMemory) (r : Routine) (arms arm id : ℕ) → (arms ≡ 0 → ⊥) → id ≡ reply_id r.id
-    → IfOk d (λ p. p ≡ put.Const 12 (words (0 ∷ 0 ∷ id ∷ return_word ∷ 0 ∷ return_word ∷ arm ∷ [])))
-    → IfOk d (λ p. p ≡ put.Const 12 (words (last_words r arms arm)))
-last_made d r zero arm id some is h = absurd (some refl)
-last_made d r (suc n) arm id some is h =
-    subst (λ (k : ℕ). IfOk d (λ p. p ≡ put.Const 12 (words (0 ∷ 0 ∷ k ∷ return_word ∷ 0 ∷ return_word ∷ arm ∷ [])))) is h
+pub last_made : (d : Result Put NoMemory) (arms arm : ℕ) → (arms ≡ 0 → ⊥)
+    → IfOk d (λ p. p ≡ put.Const 24 (words (return_word ∷ 0 ∷ return_word ∷ arm ∷ [])))
+    → IfOk d (λ p. p ≡ put.Const 24 (words (last_words arms arm)))
+last_made d zero arm some h = absurd (some refl)
+last_made d (suc n) arm some h = h

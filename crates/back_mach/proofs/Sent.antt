@@ -9,7 +9,7 @@ use Rattle.wire_def.specs.declared.head.Head.{Head}
 use Rattle.wire_def.specs.declared.outcome.Refusal.TheVariants.{RetCode}
 use Rattle.wire_def.specs.declared.reply.Status.{Status}
 use Rattle.wire_def.specs.declared.reply.Status.TheVariants as status
-use Rattle.head_arms.specs.Arms.{arm_status, where_raised}
+use Rattle.head_arms.specs.Arms.{where_raised}
 use Rattle.back_mach.specs.declared.header.MachHeader.{MachHeader}
 use Rattle.back_mach.specs.declared.routines.Routine.{Routine}
 use Rattle.head_kit.specs.Words.{IsWord}

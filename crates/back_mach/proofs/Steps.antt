@@ -1,5 +1,5 @@
 -- A header that is read, and is not the one that is wanted, and what follows a return code.
-use Rattle.std.proofs.Common.{◌≡◌, ◌⊎◌, inl, inr, ◌+◌, ℕ, zero, suc, List, refl}
+use Rattle.std.proofs.Common.{◌≡◌, ◌+◌, ℕ, zero, suc, List, refl}
 use Rattle.std.proofs.lemmas.Bool.{ne_eqb}
 use Rattle.wire_def.specs.declared.fault.HeadErr.TheVariants.{Size, Type_}
 use Rattle.wire_def.specs.Grammar.{got, stop}

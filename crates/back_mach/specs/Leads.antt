@@ -47,13 +47,25 @@ lead_length = 24
 abbrev pub reply_id : ℕ → ℕ
 reply_id id = (id + 100) % 2 ^ 32
 
--- the header of the reply to a request with an id, and a return code in two's complement
+-- the header of a reply with an id, and a return code in two's complement
+abbrev pub reply_header : ℕ → ℕ → ℕ → List ℕ
+reply_header id remote code = words (move_send_once ∷ 0 ∷ remote ∷ 0 ∷ 0 ∷ id ∷ return_word ∷ code ∷ [])
+
+-- the same of the reply to a request with an id
 abbrev pub reply_octets : ℕ → ℕ → ℕ → List ℕ
-reply_octets id remote code = words (move_send_once ∷ 0 ∷ remote ∷ 0 ∷ 0 ∷ reply_id id ∷ return_word ∷ code ∷ [])
+reply_octets id remote code = reply_header (reply_id id) remote code
+
+-- the head of a reply with an arm that has the id of a head, where so many exceptions are raised
+abbrev pub reply_form : ℕ → ℕ → Head → List ℕ
+reply_form arms arm head = reply_header head.id head.remote 0 ++ where_raised arms (words (return_word ∷ arm ∷ []))
+
+-- a head with the id of the reply of a routine
+abbrev pub reply_head : Routine → Head → Head
+reply_head r head = record head { id = reply_id r.id }
 
 -- the head of a reply with an arm, where so many exceptions are raised
 abbrev pub reply_lead : Routine → ℕ → ℕ → Head → List ℕ
-reply_lead r arms arm head = reply_octets r.id head.remote 0 ++ where_raised arms (words (return_word ∷ arm ∷ []))
+reply_lead r arms arm head = reply_form arms arm (reply_head r head)
 
 -- the length of the head of a reply, whatever it says
 abbrev pub reply_lead_length : ℕ → ℕ

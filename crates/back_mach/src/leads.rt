@@ -8,7 +8,7 @@ ghost use Rattle.cast_stub.specs.Block.{op_seen, patch};
 ghost use Rattle.stub_lower.specs.Leads.{Leads, AreChunks};
 ghost use Rattle.back_mach.specs.Words.{words};
 ghost use Rattle.back_mach.specs.Coded.{IsChunk, last_words, reply_puts, request_puts};
-ghost use Rattle.back_mach.specs.Leads.{lead, reply_lead, reply_lead_length};
+ghost use Rattle.back_mach.specs.Leads.{lead, reply_form, reply_head, reply_lead_length};
 ghost use Rattle.back_mach.specs.Routines.{routine_of};
 ghost use Rattle.head_arms.specs.Raised.{exceptions};
 
@@ -20,7 +20,7 @@ use head_arms::exceptions_of;
 use kit_base::{NoMemory, Octets};
 use pres::Bound;
 use std::alloc::Global;
-use wire_def::Order;
+use wire_def::{Head, Order};
 
 /// Words, one after the other.
 fn octets_of(alloc: Global, numbers: &[u32]) -> Result<Octets, NoMemory>
@@ -40,8 +40,8 @@ fn constant(alloc: Global, off: u32, numbers: &[u32]) -> Result<Put, NoMemory>
     Ok(Put::Const(off, Constant::of(alloc, octets_of(alloc, numbers)?)))
 }
 
-/// A port of the head at an offset of a chunk.
-fn port(off: u32, field: HeadField) -> Put
+/// A number of the head at an offset of a chunk.
+fn number(off: u32, field: HeadField) -> Put
     ensures { result ≡ put.Head off field 4 Little }
 {
     Put::Head(off, field, 4, Order::Little)
@@ -66,9 +66,9 @@ fn request_puts(alloc: Global, routine: Routine) -> Result<Puts, NoMemory>
 {
     let mut puts = Puts::new(alloc);
     puts.push(constant(alloc, 0, &[request_bits(routine.wants), 0])?)?;
-    puts.push(port(8, HeadField::Remote))?;
+    puts.push(number(8, HeadField::Remote))?;
     if routine.wants {
-        puts.push(port(12, HeadField::Local))?;
+        puts.push(number(12, HeadField::Local))?;
         puts.push(constant(alloc, 16, &[0, routine.id])?)?;
     } else {
         puts.push(constant(alloc, 12, &[0, 0, routine.id])?)?;
@@ -76,27 +76,27 @@ fn request_puts(alloc: Global, routine: Routine) -> Result<Puts, NoMemory>
     Ok(puts)
 }
 
-/// The words of the head of a reply with an arm, behind the remote port, where so many exceptions
-/// are raised.
-fn last_words(alloc: Global, routine: Routine, arms: u32, arm: u32) -> Result<Put, NoMemory>
-    ensures { IfOk result (λ p. p ≡ put.Const 12 (words (last_words routine arms arm))) }
+/// The words of the head of a reply with an arm, behind the id, where so many exceptions are raised.
+fn last_words(alloc: Global, arms: u32, arm: u32) -> Result<Put, NoMemory>
+    ensures { IfOk result (λ p. p ≡ put.Const 24 (words (last_words arms arm))) }
 {
-    let id = reply_id(routine.id);
     if arms == 0 {
-        constant(alloc, 12, &[0, 0, id, RETURN, 0])
+        constant(alloc, 24, &[RETURN, 0])
     } else {
-        constant(alloc, 12, &[0, 0, id, RETURN, 0, RETURN, arm])
+        constant(alloc, 24, &[RETURN, 0, RETURN, arm])
     }
 }
 
 /// The puts of the head of a reply with an arm, where so many exceptions are raised.
-fn reply_puts(alloc: Global, routine: Routine, arms: u32, arm: u32) -> Result<Puts, NoMemory>
-    ensures { IfOk result (λ puts. puts ≡ reply_puts routine arms arm) }
+fn reply_puts(alloc: Global, arms: u32, arm: u32) -> Result<Puts, NoMemory>
+    ensures { IfOk result (λ puts. puts ≡ reply_puts arms arm) }
 {
     let mut puts = Puts::new(alloc);
     puts.push(constant(alloc, 0, &[MOVE_SEND_ONCE, 0])?)?;
-    puts.push(port(8, HeadField::Remote))?;
-    puts.push(last_words(alloc, routine, arms, arm)?)?;
+    puts.push(number(8, HeadField::Remote))?;
+    puts.push(constant(alloc, 12, &[0, 0])?)?;
+    puts.push(number(20, HeadField::Id))?;
+    puts.push(last_words(alloc, arms, arm)?)?;
     Ok(puts)
 }
 
@@ -116,11 +116,11 @@ fn request_code(alloc: Global, routine: Routine) -> Result<SendCode, NoMemory>
 }
 
 /// One chunk of the head of a reply with an arm, where so many exceptions are raised.
-fn reply_code(alloc: Global, routine: Routine, arms: u32, arm: u32) -> Result<SendCode, NoMemory>
+fn reply_code(alloc: Global, arms: u32, arm: u32) -> Result<SendCode, NoMemory>
     ensures { IfOk result
-        (λ code. IsChunk (reply_lead_length arms) (reply_puts routine arms arm) code) }
+        (λ code. IsChunk (reply_lead_length arms) (reply_puts arms arm) code) }
 {
-    let puts = reply_puts(alloc, routine, arms, arm)?;
+    let puts = reply_puts(alloc, arms, arm)?;
     chunk_of(alloc, reply_length(arms), puts)
 }
 
@@ -134,16 +134,29 @@ pub fn lead_call(alloc: Global, bound: &Bound, op: u32) -> Result<SendCode, NoMe
     request_code(alloc, routine_of(bound, op))
 }
 
-/// The head of a reply to an operation with an arm: 0 for the answer, k for the k-th exception. The
-/// size is set by `size_patch`.
+/// The head of a reply to an operation with an arm: 0 for the answer, k for the k-th exception. Its
+/// id is that of the head that it is run with, which `reply_head` gives, and the size is set by
+/// `size_patch`.
 pub fn lead_reply(alloc: Global, bound: &Bound, op: u32, arm: u32) -> Result<SendCode, NoMemory>
     requires mach { bound.now.back ≡ Mach }
     requires op { op < length bound.now.ops }
     ensures means { IfOk result (λ code.
-        Leads (λ h. reply_lead (routine_of bound.now op) (exceptions bound.now op) arm h) code) }
+        Leads (λ h. reply_form (exceptions bound.now op) arm h) code) }
     ensures chunks { IfOk result AreChunks }
 {
-    reply_code(alloc, routine_of(bound, op), exceptions_of(bound, op), arm)
+    reply_code(alloc, exceptions_of(bound, op), arm)
+}
+
+/// A head with the id of the reply to an operation, for the code of its replies.
+pub fn reply_head(bound: &Bound, op: u32, head: &Head) -> Head
+    requires mach { bound.now.back ≡ Mach }
+    requires op { op < length bound.now.ops }
+    ensures { result ≡ reply_head (routine_of bound.now op) head.now }
+{
+    Head {
+        id: reply_id(routine_of(bound, op).id),
+        ..*head
+    }
 }
 
 /// The operation that sets the size of a message, once all of it is there: the number of all its

@@ -23,7 +23,7 @@ pub use laws::{
     begins_or_stops, heads_are_read, leads_have_one_length, own_refusals_have_octets,
     refusals_are_read, replies_are_read, requests_are_named_right, requests_are_read,
 };
-pub use leads::{lead_call, lead_reply, size_patch};
+pub use leads::{lead_call, lead_reply, reply_head, size_patch};
 pub use lowering::lower_send;
 pub use recv_lowering::lower_recv;
 pub use refusals::put_refusal;

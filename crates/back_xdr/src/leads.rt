@@ -21,7 +21,7 @@ use wire_def::Order;
 fn octets_of(alloc: Global, numbers: &[u32]) -> Result<Octets, NoMemory>
     ensures { IfOk result (λ o. o ≡ words numbers.now) }
 {
-    let mut octets = Octets::new(alloc);
+    let mut octets = Octets::with_room(alloc, numbers.len().saturating_mul(4))?;
     for number in numbers {
         octets.append(&number.to_be_bytes())?;
     }
@@ -35,7 +35,7 @@ fn chunk_of(alloc: Global, numbers: &[u32]) -> Result<SendCode, NoMemory>
     ensures { IfOk result (λ code. IsCoded numbers.now code) }
 {
     let size = 4 + 4 * numbers.len() as u32;
-    let mut puts = Puts::new(alloc);
+    let mut puts = Puts::with_room(alloc, 2)?;
     puts.push(Put::Head(0, HeadField::Id, 4, Order::Big))?;
     puts.push(Put::Const(4, Constant::of(alloc, octets_of(alloc, numbers)?)))?;
     let mut ops = SendOps::new(alloc);

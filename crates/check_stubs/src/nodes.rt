@@ -1,6 +1,7 @@
 //! Tables of types.
 
 use check_rows::{Bad, list, member, number, part, word};
+use kit_base::Listed;
 use mint::errors::MintErr;
 use mint::kind::{Count, Kind};
 use mint::node::{Arms, Labels, Node, NodeIds, Tag};
@@ -46,14 +47,14 @@ fn count_of(json: Option<&Json>) -> Result<Count, Bad> {
 }
 
 fn labels_of(alloc: Global, json: &Json) -> Result<Labels, Bad> {
-    let mut labels = Labels::new(alloc);
+    let mut numbers = Listed::new(alloc);
     for label in list(json)? {
         match i32::try_from(number(label)?) {
-            Ok(n) => labels.push(n)?,
+            Ok(n) => numbers.push(n)?,
             Err(_) => return Err(Bad::Row("no label")),
         }
     }
-    Ok(labels)
+    Ok(Labels::of(alloc, numbers.as_slice())?)
 }
 
 fn ids_of(alloc: Global, json: &Json) -> Result<NodeIds, Bad> {

@@ -42,6 +42,10 @@ fn put_open(size: u32, puts: Puts, out: &mut SendOps) -> Result<(), NoMemory>
 pub(crate) fn close(alloc: Global, run: &mut Run) -> Result<(), NoMemory>
     ensures { OnOk result (Closes run.old run.new) }
 {
+    if run.puts.len() == 0 {
+        run.size = 0;
+        return Ok(());
+    }
     let puts = std::mem::replace(&mut run.puts, Puts::new(alloc));
     let joined = join_puts(alloc, puts)?;
     put_open(run.size, joined, &mut run.out)?;

@@ -42,7 +42,7 @@ use Rattle.back_mach.specs.Leads as mach_leads
 use Rattle.back_mach.specs.Routines.{routine_in, routine_of}
 use Rattle.back_mach.specs.Seeking as mach_seeking
 use Rattle.back_mach.specs.Reported as mach_reported
-pub use Rattle.stub_codes.specs.Backs.{encoding, IsMinorOver, lead_over, lead, reply_lead_over, reply_lead, sized, BeginsOver, Begins}
+pub use Rattle.stub_codes.specs.Backs.{encoding, IsMinorOver, lead_over, lead, reply_form, reply_lead_over, reply_lead, sized, BeginsOver, Begins}
 use Rattle.flick_engine.specs.declared.wire.Wire.{Wire}
 use Rattle.flick_engine.specs.declared.wire.Wire.TheVariants as wires
 use Rattle.flick_engine.specs.Fates.{Heard, fate_of, giop_fate}

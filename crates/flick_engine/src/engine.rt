@@ -4,7 +4,7 @@ ghost use Rattle.std.specs.Prelude.{◌≡◌, ◌<◌, length, true, IfOk, Some
 ghost use Rattle.stub_codes.specs.Receiving.{Receives};
 ghost use Rattle.stub_codes.specs.Sending.{Sends};
 ghost use Rattle.stub_codes.specs.Stubs.{IsCoded, reply_code_at};
-ghost use Rattle.flick_engine.specs.Backs.{encoding, IsMinorOver, lead, reply_lead};
+ghost use Rattle.flick_engine.specs.Backs.{encoding, IsMinorOver, lead, reply_form};
 ghost use Rattle.flick_engine.specs.Messages.{request_type};
 ghost use Rattle.back_cdr.specs.Names.{AreNamesOver};
 ghost use Rattle.flick_engine.specs.Replies.{HasArm, arm_type};
@@ -122,13 +122,14 @@ impl Engine {
     }
 
     /// The code that sends an operation's replies with an arm in a version: arm 0 is the answer, k the k-th exception.
+    /// Over Mach it puts the id of the head that it is run with.
     pub fn reply_code(&self, op: u32, arm: u32, minor: u8) -> &SendCode
         requires answers { self.now.answers ≡ true }
         requires op { op < length self.now.binding.ops }
         requires arm { HasArm self.now.binding op arm }
         requires minor { IsMinorOver self.now.binding.back minor }
         ensures found { reply_code_at self.now.stubs op arm minor ≡ Some result.now }
-        ensures sends { Sends self.now.binding.back (reply_lead self.now.binding minor op arm)
+        ensures sends { Sends self.now.binding.back (reply_form self.now.binding minor op arm)
             (arm_type self.now.binding op arm) result.now }
     {
         self.stubs.reply_code(op, arm, minor)

@@ -69,7 +69,7 @@ fn field(alloc: Global, n: usize, ty: Ty) -> Result<Field, NoMemory>
 fn parameters_on(alloc: Global, scope: &Scope, d: u32, list: &[ProcType]) -> Result<Fields, NameErr>
     ensures { Gives (map seen_field) result (parameters_on scope.now d [] list.now) }
 {
-    let mut fields = Fields::new(alloc);
+    let mut fields = Fields::with_room(alloc, list.len())?;
     for (i, t) in list.iter().enumerate() {
         let ty = parameter(scope, d, t)?;
         fields.push(field(alloc, i + 1, ty)?)?;
@@ -177,7 +177,7 @@ fn procedures(
     ensures scope { OnOk result (r.new.scope ≡ r.old.scope) }
     ensures versions { OnOk result (r.new.versions ≡ r.old.versions) }
 {
-    let mut ops = Operations::new(alloc);
+    let mut ops = Operations::with_room(alloc, list.len())?;
     for p in list {
         let d = r.next()?;
         procedure(alloc, r.scope(), d, names, numbers, &mut ops, p)?;

@@ -1,19 +1,20 @@
 //! The numbers of an enum, among which a number is found by halving.
 
-ghost use Rattle.std.specs.Prelude.{◌≡◌, [], ◌∷◌, ◌++◌, length, slice_get, OnOk, OnErr, true, int_lt};
+ghost use Rattle.std.specs.Prelude.{◌≡◌, [], ◌∷◌, ◌++◌, length, slice_get, IfOk, true, int_lt};
 ghost use Rattle.std.specs.List.{list_any};
 ghost use Rattle.std.specs.Option.{option_copied};
 ghost use Rattle.std.specs.Ordering.{int_eq};
 ghost use Rattle.mint.specs.Keyed.{IsMark, Rise};
 
-use kit_base::NoMemory;
+use kit_base::{Listed, NoMemory};
+use kit_shared::Shared;
 use std::alloc::Global;
 use std::marker::Model;
 
-/// Numbers of an enum. It keeps whether they rise; where they do, it finds one by halving.
+/// Numbers of an enum, which may have more owners. It keeps whether they rise; where they do, it finds one by halving.
 #[derive(Drop)]
 pub struct Labels {
-    numbers: Vec<i32>,
+    numbers: Shared<Listed<i32>>,
     rising: bool,
 }
 
@@ -23,9 +24,9 @@ impl Model for Labels {
 
     ghost Value = { List ℤ };
 
-    ghost view = { λ a. a.numbers.items };
+    ghost view = { λ a. a.numbers };
 
-    ghost invariant = { λ a. IsMark a.rising a.numbers.items };
+    ghost invariant = { λ a. IsMark a.rising a.numbers };
 }
 
 fn is_among(labels: &[i32], n: &i128) -> bool
@@ -96,14 +97,23 @@ fn are_rising(labels: &[i32]) -> bool
 }
 
 impl Labels {
-    /// No numbers, which takes no memory.
-    pub fn new(alloc: Global) -> Labels
-        ensures { result ≡ [] }
+    /// These numbers.
+    pub fn of(alloc: Global, numbers: &[i32]) -> Result<Labels, NoMemory>
+        ensures { IfOk result (λ labels. labels ≡ numbers.now) }
     {
-        Labels {
-            numbers: Vec::new(alloc),
-            rising: true,
-        }
+        let rising = are_rising(numbers);
+        let numbers = Shared::new(alloc, Listed::from_slice(alloc, numbers)?)?;
+        Ok(Labels { numbers, rising })
+    }
+
+    /// The same numbers with one more owner, which takes no memory.
+    pub fn share(&self) -> Result<Labels, NoMemory>
+        ensures { IfOk result (λ labels. labels ≡ self.now) }
+    {
+        Ok(Labels {
+            numbers: self.numbers.share()?,
+            rising: self.rising,
+        })
     }
 
     /// How many numbers there are.
@@ -117,7 +127,7 @@ impl Labels {
     pub fn get(&self, i: usize) -> Option<&i32>
         ensures { option_copied result ≡ slice_get self.now i }
     {
-        self.numbers.get(i)
+        self.numbers.get().get(i)
     }
 
     /// The numbers.
@@ -136,26 +146,5 @@ impl Labels {
         } else {
             is_among(self.numbers.as_slice(), n)
         }
-    }
-
-    /// Appends a number.
-    pub fn push(&mut self, n: i32) -> Result<(), NoMemory>
-        ensures ok { OnOk result (self.new ≡ self.old ++ n ∷ []) }
-        ensures err { OnErr result (self.new ≡ self.old) }
-    {
-        let above = is_above(self.numbers.as_slice(), &n);
-        self.numbers.push(n)?;
-        self.rising = self.rising && above;
-        Ok(())
-    }
-
-    /// Appends a piece. It looks again at all numbers, whether they rise.
-    pub fn append(&mut self, piece: &[i32]) -> Result<(), NoMemory>
-        ensures ok { OnOk result (self.new ≡ self.old ++ piece.now) }
-        ensures err { OnErr result (self.new ≡ self.old) }
-    {
-        self.numbers.extend_from_slice(piece)?;
-        self.rising = are_rising(self.numbers.as_slice());
-        Ok(())
     }
 }

@@ -11,7 +11,7 @@ ghost use Rattle.pres.specs.Offers.{face_of, packed, sign_in};
 
 use crate::draft::Draft;
 use crate::naming::{enum_tag, item_table};
-use crate::sorting::{copy_labels, labels_of};
+use crate::sorting::labels_of;
 use crate::{ItemTable, Shape};
 use aoi::Ty;
 use kit_base::NoMemory;
@@ -56,12 +56,8 @@ impl Draft {
         }
     }
 
-    /// A copy of the labels of a node that is an enum, and its items, with one more owner.
-    fn shared_enum(
-        &self,
-        alloc: Global,
-        id: NodeId,
-    ) -> Result<Option<(Labels, ItemTable)>, NoMemory>
+    /// The labels of a node that is an enum, and its items, each with one more owner.
+    fn shared_enum(&self, id: NodeId) -> Result<Option<(Labels, ItemTable)>, NoMemory>
         requires { id < length (drawn self.now) }
         ensures value { IfOk result (λ o. option_map (λ p. p.1) o ≡ enum_in (at (drawn self.now) id)) }
         ensures labels { IfOk result (λ o. IfSome o (λ p. p.0 ≡ labels_of p.1)) }
@@ -69,7 +65,7 @@ impl Draft {
             (λ o. IfSome o (λ p. IsTrue (are_distinct (map (λ i. i.0) p.1)))) }
     {
         match self.node_enum(id) {
-            Some((labels, items)) => Ok(Some((copy_labels(alloc, labels)?, items.share()?))),
+            Some((labels, items)) => Ok(Some((labels.share()?, items.share()?))),
             None => Ok(None),
         }
     }
@@ -101,7 +97,7 @@ impl Draft {
                 labels_of(alloc, items.as_slice())?,
                 item_table(alloc, items.as_slice())?,
             ))),
-            Ty::Named(k) => self.shared_enum(alloc, self.type_node(*k)),
+            Ty::Named(k) => self.shared_enum(self.type_node(*k)),
             _ => Ok(None),
         }
     }

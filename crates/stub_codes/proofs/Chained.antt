@@ -6,7 +6,7 @@ use Rattle.cast_stub.specs.declared.send.SendCode.{SendCode}
 use Rattle.stub_lower.specs.Leads.{Leads}
 use Rattle.pres.specs.Bindings.{Binding}
 use Rattle.stub_codes.specs.declared.stub.Stub.{Stub}
-use Rattle.stub_codes.specs.Backs.{encoding, other_encoding, IsMinorOver, lead, reply_lead}
+use Rattle.stub_codes.specs.Backs.{encoding, other_encoding, IsMinorOver, lead, reply_form}
 use Rattle.stub_codes.specs.Messages.{request_type}
 use Rattle.stub_codes.specs.Replies.{HasArm, arm_type}
 use Rattle.stub_codes.specs.Receiving.{Receives, ReceivesOther}
@@ -31,14 +31,14 @@ stub_made b m op t first s same leads sends receives other arms =
 
 -- it sends the replies to an operation with an arm
 abbrev pub IsKept : Binding → ℕ → ℕ → ℕ → SendCode → Type 0
-IsKept b m op k code = Sends b.back (reply_lead b m op k) (arm_type b op k) code
+IsKept b m op k code = Sends b.back (reply_form b m op k) (arm_type b op k) code
 
 -- the code of an arm, from that of the arm's node
 pub reply_made : (b : Binding) (m op k : ℕ) (t : Ty) (first : SendCode) (r : Result SendCode NoMemory) → t ≡ arm_type b op k
-    → Leads (reply_lead b m op k) first → IfOk r (λ code. SendsAfter b.back first t code) → IfOk r (λ code. IsKept b m op k code)
+    → Leads (reply_form b m op k) first → IfOk r (λ code. SendsAfter b.back first t code) → IfOk r (λ code. IsKept b m op k code)
 reply_made b m op k t first (Ok code) same leads sends =
-    subst (λ (u : Ty). Sends b.back (reply_lead b m op k) u code) same
-    (sends (reply_lead b m op k) leads (are_reply_heads b.back b m op k))
+    subst (λ (u : Ty). Sends b.back (reply_form b m op k) u code) same
+    (sends (reply_form b m op k) leads (are_reply_heads b.back b m op k))
 reply_made b m op k t first (Err e) same leads sends = tt
 
 -- ---- a list of codes

@@ -5,14 +5,15 @@ use Rattle.mint.specs.Values.{Val}
 use Rattle.wire_def.specs.declared.head.Head.{Head}
 use Rattle.raw_buf.specs.declared.tally.Tally.{Tally}
 use Rattle.cast_stub.specs.declared.send.SendCode.{SendCode}
-use Rattle.cast_stub.specs.Meaning.{cost, AreCovered}
+use Rattle.cast_stub.specs.Meaning.{Cost, cost, AreCovered}
 use Rattle.cast_stub.specs.Parts.{on_some}
 use Rattle.cast_stub.specs.Subs.{sent_steps}
 use Rattle.stub_machine.specs.Sending.{paid, IsLong}
 use Rattle.pres.specs.Bindings.{Binding}
 use Rattle.stub_codes.specs.declared.stub.Stub.{Stub}
-use Rattle.stub_codes.specs.Backs.{IsMinorOver, reply_lead}
-use Rattle.stub_codes.specs.Replies.{HasArm, arm_type}
+use Rattle.stub_codes.specs.Backs.{IsMinorOver, reply_form, reply_head}
+use Rattle.stub_codes.specs.Messages.{framed}
+use Rattle.stub_codes.specs.Replies.{HasArm, arm_message, arm_type}
 use Rattle.stub_codes.specs.Sending.{Sends}
 use Rattle.stub_codes.specs.Stubs.{AreReplying, replies_in, sent_cost, reply_code_at, reply_cost}
 use Rattle.stub_codes.proofs.Following.{some_same}
@@ -40,11 +41,19 @@ module _ {A E : Type 0} (r : Result A E) where
   sent_paid stubs op s h v t u found ran =
       subst (λ (x : Option Stub). OnOk r (option_map (paid t) (on_some x (λ (y : Stub). cost y.send h v)) ≡ Some u)) (sym found) ran
 
-  -- that of the arm's code
-  pub reply_paid : (stubs : List Stub) (op k m : ℕ) (s : SendCode) (h : Head) (v : Val) (t u : Tally) → reply_code_at stubs op k m ≡ Some s
-      → OnOk r (option_map (paid t) (cost s h v) ≡ Some u) → OnOk r (option_map (paid t) (reply_cost stubs op k m h v) ≡ Some u)
-  reply_paid stubs op k m s h v t u found ran =
-      subst (λ (x : Option SendCode). OnOk r (option_map (paid t) (on_some x (λ (y : SendCode). cost y h v)) ≡ Some u)) (sym found) ran
+  -- that of the arm's code, where its run costs the same
+  pub reply_paid : (stubs : List Stub) (op k m : ℕ) (s : SendCode) (h : Head) (v : Val) (x : Option Cost) (t u : Tally)
+      → reply_code_at stubs op k m ≡ Some s → cost s h v ≡ x → OnOk r (option_map (paid t) x ≡ Some u)
+      → OnOk r (option_map (paid t) (reply_cost stubs op k m h v) ≡ Some u)
+  reply_paid stubs op k m s h v x t u found same ran =
+      let kept : reply_cost stubs op k m h v ≡ x = ap (λ (o : Option SendCode). on_some o (λ (y : SendCode). cost y h v)) found ∙ same in
+      subst (λ (c : Option Cost). OnOk r (option_map (paid t) c ≡ Some u)) (sym kept) ran
+
+-- what the arm's code means with the head that has the reply's id
+pub reply_means : (b : Binding) (m op k : ℕ) (h sent : Head) (v : Val) (x : Option (List ℕ)) → sent ≡ reply_head b op h
+    → x ≡ Some (framed b.back (reply_form b m op k sent) (arm_type b op k) v) → x ≡ Some (arm_message b m op k h v)
+reply_means b m op k h sent v x is means =
+    means ∙ ap (λ (g : Head). Some (framed b.back (reply_form b m op k g) (arm_type b op k) v)) is
 
 -- ---- room
 
@@ -78,10 +87,10 @@ kept_at stubs op k m s code found there =
 -- and sends the replies with the arm
 pub kept_is : (b : Binding) (stubs : List Stub) (op k m : ℕ) (s : Stub) (code : SendCode) → AreReplying b stubs
     → slice_get stubs op ≡ Some s → HasArm b op k → IsMinorOver b.back m → slice_get (replies_in s m) k ≡ Some code
-    → Sends b.back (reply_lead b m op k) (arm_type b op k) code
+    → Sends b.back (reply_form b m op k) (arm_type b op k) code
 kept_is b stubs op k m s code replying found has version there =
     let (kept, at, sends) = replying op s found m version k has in
-    subst (λ (x : SendCode). Sends b.back (reply_lead b m op k) (arm_type b op k) x) (some_same kept code (sym at ∙ there)) sends
+    subst (λ (x : SendCode). Sends b.back (reply_form b m op k) (arm_type b op k) x) (some_same kept code (sym at ∙ there)) sends
 
 -- there is one
 pub none_kept : (b : Binding) (stubs : List Stub) (op k m : ℕ) (s : Stub) → AreReplying b stubs → slice_get stubs op ≡ Some s

@@ -16,6 +16,8 @@ pub mod ArmIds
 mod Alike
 -- * The codes of operations and of their arms, one after the other
 mod Chained
+-- * Code costs the same with whatever head, by induction on the code
+mod AnyHead
 -- * What a run of an operation's code has done, as it is promised of the operation
 mod Done
 -- * Code without calls of some types, each at the place of its number

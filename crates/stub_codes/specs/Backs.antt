@@ -53,14 +53,31 @@ lead_over back.Mach b m op head = mach_leads.lead (routine_of b op) head
 abbrev pub lead : Binding → ℕ → ℕ → Head → List ℕ
 lead b m op head = lead_over b.back b m op head
 
+-- the head of a reply to an operation with an arm that has the id of a head, over a back end, in a version
+abbrev pub reply_form_over : Back → Binding → ℕ → ℕ → ℕ → Head → List ℕ
+reply_form_over back.Xdr b m op k head = xdr_leads.reply_lead (exceptions b op) k head.id
+reply_form_over back.CdrBig b m op k head = cdr_leads.reply_lead m Big (target_of b op) k head.id
+reply_form_over back.CdrLittle b m op k head = cdr_leads.reply_lead m Little (target_of b op) k head.id
+reply_form_over back.Mach b m op k head = mach_leads.reply_form (exceptions b op) k head
+
+-- the same over the back end of a binding: 0 is the answer, k the k-th exception
+abbrev pub reply_form : Binding → ℕ → ℕ → ℕ → Head → List ℕ
+reply_form b m op k head = reply_form_over b.back b m op k head
+
+-- a head with the id of the reply to an operation, where the operation tells it: over Mach
+abbrev pub reply_head_over : Back → Binding → ℕ → Head → Head
+reply_head_over back.Mach b op head = mach_leads.reply_head (routine_of b op) head
+reply_head_over _ b op head = head
+
+-- the same over the back end of a binding
+abbrev pub reply_head : Binding → ℕ → Head → Head
+reply_head b op head = reply_head_over b.back b op head
+
 -- the head of a reply to an operation with an arm, over a back end, in a version
 abbrev pub reply_lead_over : Back → Binding → ℕ → ℕ → ℕ → Head → List ℕ
-reply_lead_over back.Xdr b m op k head = xdr_leads.reply_lead (exceptions b op) k head.id
-reply_lead_over back.CdrBig b m op k head = cdr_leads.reply_lead m Big (target_of b op) k head.id
-reply_lead_over back.CdrLittle b m op k head = cdr_leads.reply_lead m Little (target_of b op) k head.id
-reply_lead_over back.Mach b m op k head = mach_leads.reply_lead (routine_of b op) (exceptions b op) k head
+reply_lead_over k b m op arm head = reply_form_over k b m op arm (reply_head_over k b op head)
 
--- the head of a reply to an operation with an arm: 0 is the answer, k the k-th exception
+-- the head of a reply to an operation with an arm
 abbrev pub reply_lead : Binding → ℕ → ℕ → ℕ → Head → List ℕ
 reply_lead b m op k head = reply_lead_over b.back b m op k head
 

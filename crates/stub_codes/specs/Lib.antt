@@ -1,6 +1,7 @@
 pub mod Asked
 pub mod Backs
 pub mod Distinct
+pub mod Held
 pub mod Laws
 pub mod Lowered
 pub mod Messages

@@ -14,17 +14,17 @@ use Rattle.stub_receiver.specs.declared.recv.Got.{Got}
 use Rattle.stub_receiver.specs.Ran.{place_of, IsGot}
 use Rattle.pres.specs.Bindings.{Binding}
 use Rattle.stub_codes.specs.declared.stub.Stub.{Stub}
-use Rattle.stub_codes.specs.Backs.{encoding, other_encoding, IsMinorOver, lead, reply_lead}
+use Rattle.stub_codes.specs.Backs.{encoding, other_encoding, IsMinorOver, lead, reply_form, reply_lead}
 use Rattle.stub_codes.specs.Messages.{request_type}
 use Rattle.stub_codes.specs.Receiving.{Receives, ReceivesOther}
 use Rattle.stub_codes.specs.Replies.{HasArm, arm_type}
 use Rattle.stub_codes.specs.Sending.{Sends}
 use Rattle.stub_codes.specs.Within.{HasCostWithin}
 
--- the place of each arm of an operation's reply has code that sends the messages of the arm in a version
+-- the place of each arm of an operation's reply has code that sends the messages of the arm in a version, with the id of a head
 abbrev pub HasReplies : Binding → ℕ → ℕ → List SendCode → Type 0
 HasReplies b m op codes = (k : ℕ) → HasArm b op k
-    → (code : SendCode) × (slice_get codes k ≡ Some code) × Sends b.back (reply_lead b m op k) (arm_type b op k) code
+    → (code : SendCode) × (slice_get codes k ≡ Some code) × Sends b.back (reply_form b m op k) (arm_type b op k) code
 
 -- the codes of an operation's replies in a version
 abbrev pub replies_in : Stub → ℕ → List SendCode

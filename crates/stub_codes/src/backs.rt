@@ -10,7 +10,7 @@ ghost use Rattle.cast_stub.specs.Turned.{AllTurned};
 ghost use Rattle.stub_lower.specs.Leads.{AreChunks, Leads};
 ghost use Rattle.stub_lower.specs.Lowered.{CodesSend};
 ghost use Rattle.stub_lower.specs.RecvLowered.{CodesReceive};
-ghost use Rattle.stub_codes.specs.Backs.{encoding, other_encoding, lead, reply_lead, tail, IsMinorOver};
+ghost use Rattle.stub_codes.specs.Backs.{encoding, other_encoding, lead, reply_form, reply_head, tail, IsMinorOver};
 ghost use Rattle.stub_codes.specs.Replies.{HasArm};
 
 use crate::arms::arms_have_ids;
@@ -20,7 +20,7 @@ use kit_base::NoMemory;
 use mint::table::Mint;
 use pres::Bound;
 use std::alloc::Global;
-use wire_def::{Back, Encoding, Order};
+use wire_def::{Back, Encoding, Head, Order};
 
 /// How the bodies of messages that are sent are laid out.
 pub fn encoding_of(back: Back) -> Encoding
@@ -94,7 +94,8 @@ pub(crate) fn lead_of(
     }
 }
 
-/// The code of the head of a reply to an operation with an arm, in a version.
+/// The code of the head of a reply to an operation with an arm, in a version. Over Mach its id is that of the head that
+/// it is run with, which `reply_head` gives.
 pub(crate) fn reply_lead_of(
     alloc: Global,
     bound: &Bound,
@@ -105,7 +106,7 @@ pub(crate) fn reply_lead_of(
     requires op { op < length bound.now.ops }
     requires arm { HasArm bound.now op arm }
     requires minor { IsMinorOver bound.now.back minor }
-    ensures means { IfOk result (λ code. Leads (reply_lead bound.now minor op arm) code) }
+    ensures means { IfOk result (λ code. Leads (reply_form bound.now minor op arm) code) }
     ensures chunks { IfOk result AreChunks }
 {
     arms_have_ids(bound, op, arm);
@@ -113,6 +114,17 @@ pub(crate) fn reply_lead_of(
         Back::Xdr => back_xdr::lead_reply(alloc, bound, op, arm),
         Back::CdrBig | Back::CdrLittle => back_cdr::lead_reply(alloc, bound, op, arm, minor),
         Back::Mach => back_mach::lead_reply(alloc, bound, op, arm),
+    }
+}
+
+/// A head with the id of the reply to an operation, for the code of its replies: over Mach the operation tells it.
+pub(crate) fn reply_head(bound: &Bound, op: u32, head: &Head) -> Head
+    requires { op < length bound.now.ops }
+    ensures { result ≡ reply_head bound.now op head.now }
+{
+    match bound.back() {
+        Back::Xdr | Back::CdrBig | Back::CdrLittle => *head,
+        Back::Mach => back_mach::reply_head(bound, op, head),
     }
 }
 

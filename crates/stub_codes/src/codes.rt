@@ -1,7 +1,7 @@
 //! A binding with the code of each of its operations.
 
 ghost use Rattle.std.specs.Prelude.{◌≡◌, ◌<◌, length, true, IfOk, Some, option_map, slice_get};
-ghost use Rattle.stub_codes.specs.Backs.{encoding, lead, reply_lead, IsMinorOver, Takes};
+ghost use Rattle.stub_codes.specs.Backs.{encoding, lead, reply_form, IsMinorOver, Takes};
 ghost use Rattle.stub_codes.specs.Messages.{request_type};
 ghost use Rattle.stub_codes.specs.Receiving.{Receives};
 ghost use Rattle.stub_codes.specs.Replies.{HasArm, arm_type};
@@ -108,14 +108,15 @@ impl Codes {
         &self.stub(op).send
     }
 
-    /// The code that sends the replies to an operation with an arm, in a version.
+    /// The code that sends the replies to an operation with an arm, in a version: over Mach with the id of the head that
+    /// it is run with.
     pub fn reply_code(&self, op: u32, arm: u32, minor: u8) -> &SendCode
         requires answers { self.now.answers ≡ true }
         requires op { op < length self.now.binding.ops }
         requires arm { HasArm self.now.binding op arm }
         requires minor { IsMinorOver self.now.binding.back minor }
         ensures found { reply_code_at self.now.stubs op arm minor ≡ Some result.now }
-        ensures sends { Sends self.now.binding.back (reply_lead self.now.binding minor op arm)
+        ensures sends { Sends self.now.binding.back (reply_form self.now.binding minor op arm)
             (arm_type self.now.binding op arm) result.now }
     {
         self.codes_match_operations();

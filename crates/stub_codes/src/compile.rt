@@ -18,10 +18,9 @@ use crate::earlier::{Earlier, request_type_of, with_request};
 use crate::lowered::{Lowered, lower_all};
 use crate::receiving::{receiving, receiving_other, shared_other};
 use crate::replying::replies_in_versions;
-use crate::sending::sending;
+use crate::sending::{Body, sending, sending_of};
 use crate::stub::{Stub, Stubs};
 use cast_stub::{RecvCode, SendCode};
-use hoist::copy_code;
 use kit_base::NoMemory;
 use kit_shared::Shared;
 use mint::table::{Mint, NodeId};
@@ -94,10 +93,7 @@ fn request_code(
     ensures { IfOk result (λ code. SendsAfter back lead (type_at mint.now id) code) }
 {
     match bodies.get(id as usize) {
-        Some(Some(body)) => {
-            let same = copy_code(alloc, body)?;
-            sending(alloc, back, lead, same, low, mint, id)
-        }
+        Some(Some(body)) => { sending_of(alloc, back, lead, Body::Kept(body), low, mint, id) }
         _ => {
             let body = body_of(alloc, &low.sends, mint, id)?;
             sending(alloc, back, lead, body, low, mint, id)

@@ -11,7 +11,7 @@ use kit_base::NoMemory;
 use mint::errors::MintErr;
 use mint::keyed::Keyed;
 use mint::kind::{Count, Kind};
-use mint::node::{Arms, Labels, Node, NodeIds, Tag};
+use mint::node::{Arms, Node, NodeIds, Tag};
 use mint::table::{Mint, NodeId};
 use std::alloc::Global;
 
@@ -72,22 +72,13 @@ fn other_in(ids: &[u32], other: Option<u32>) -> Option<u32>
     }
 }
 
-/// The same labels.
-fn labels_of(alloc: Global, labels: &Labels) -> Result<Labels, NoMemory>
-    ensures { IfOk result (λ copy. copy ≡ labels.now) }
-{
-    let mut copy = Labels::new(alloc);
-    copy.append(labels.as_slice())?;
-    Ok(copy)
-}
-
 /// The same discriminant.
-fn tag_of(alloc: Global, tag: &Tag) -> Result<Tag, NoMemory>
+fn tag_of(tag: &Tag) -> Result<Tag, NoMemory>
     ensures { IfOk result (λ copy. copy ≡ tag.now) }
 {
     match tag {
         Tag::Num(kind) => Ok(Tag::Num(*kind)),
-        Tag::Enum(labels) => Ok(Tag::Enum(labels_of(alloc, labels)?)),
+        Tag::Enum(labels) => Ok(Tag::Enum(labels.share()?)),
     }
 }
 
@@ -98,13 +89,13 @@ fn renumber(alloc: Global, ids: &[u32], node: &Node) -> Result<Node, NoMemory>
     match node {
         Node::Void => Ok(Node::Void),
         Node::Num(kind) => Ok(Node::Num(*kind)),
-        Node::Enum(labels) => Ok(Node::Enum(labels_of(alloc, labels)?)),
+        Node::Enum(labels) => Ok(Node::Enum(labels.share()?)),
         Node::Text(count) => Ok(Node::Text(*count)),
         Node::Row(kind, count) => Ok(Node::Row(*kind, *count)),
         Node::Group(given) => Ok(Node::Group(numbers_in(alloc, ids, given.as_slice())?)),
         Node::Items(id, count) => Ok(Node::Items(number_in(ids, *id), *count)),
         Node::Choice(tag, arms, other) => Ok(Node::Choice(
-            tag_of(alloc, tag)?,
+            tag_of(tag)?,
             arms_in(alloc, ids, arms)?,
             other_in(ids, *other),
         )),

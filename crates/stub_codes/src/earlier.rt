@@ -3,7 +3,7 @@
 ghost use Rattle.std.specs.Prelude.{◌≡◌, ◌<◌, ◌≤◌, ℕ, length, IfOk, IfSome, true};
 ghost use Rattle.mint.specs.Types.{type_at};
 ghost use Rattle.head_arms.specs.Raised.{exceptions};
-ghost use Rattle.stub_codes.specs.Backs.{encoding, other_encoding, reply_lead, IsMinorOver};
+ghost use Rattle.stub_codes.specs.Backs.{encoding, other_encoding, reply_form, IsMinorOver};
 ghost use Rattle.stub_codes.specs.Distinct.{AreSame};
 ghost use Rattle.stub_codes.specs.Messages.{request_type};
 ghost use Rattle.stub_codes.specs.Receiving.{Receives, ReceivesOther};
@@ -93,9 +93,8 @@ pub(crate) fn lead_mark(bound: &Bound, op: u32, arm: u32) -> u32
     requires { op < length bound.now.ops }
 {
     match bound.back() {
-        Back::Xdr => u32::from(exceptions_of(bound, op) > 0),
+        Back::Xdr | Back::Mach => u32::from(exceptions_of(bound, op) > 0),
         Back::CdrBig | Back::CdrLittle => back_cdr::lead_mark(bound, op, arm),
-        Back::Mach => op,
     }
 }
 
@@ -167,17 +166,16 @@ fn raise_alike(bound: &Bound, op: u32, p: u32) -> bool
     }
 }
 
-/// Whether the heads of replies to two operations with an arm are known to be the same: over ONC they say the arm where
-/// exceptions are raised, and over CDR the exception's id.
+/// Whether the heads of replies to two operations with an arm are known to be the same but for the id: over ONC and Mach
+/// they say the arm where exceptions are raised, and over CDR the exception's id.
 fn have_one_lead(bound: &Bound, op: u32, p: u32, arm: u32) -> bool
     requires op { op < length bound.now.ops }
     requires p { p < length bound.now.ops }
-    ensures { result ≡ true → (m : ℕ) → reply_lead bound.now m op arm ≡ reply_lead bound.now m p arm }
+    ensures { result ≡ true → (m : ℕ) → reply_form bound.now m op arm ≡ reply_form bound.now m p arm }
 {
     match bound.back() {
-        Back::Xdr => raise_alike(bound, op, p),
+        Back::Xdr | Back::Mach => raise_alike(bound, op, p),
         Back::CdrBig | Back::CdrLittle => back_cdr::have_one_lead(bound, op, p, arm),
-        Back::Mach => false,
     }
 }
 
@@ -201,7 +199,7 @@ pub(crate) fn with_reply<'a>(
     requires few { length stubs.now ≤ length bound.now.ops }
     requires stubs { AreStubs bound.now _lead stubs.now }
     requires replying { AreReplying bound.now stubs.now }
-    ensures { IfSome result (λ c. Sends bound.now.back (reply_lead bound.now minor op arm)
+    ensures { IfSome result (λ c. Sends bound.now.back (reply_form bound.now minor op arm)
         (arm_type bound.now op arm) c.now) }
 {
     let Some(stub) = stubs.get(p as usize) else {

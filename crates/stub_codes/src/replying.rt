@@ -2,7 +2,7 @@
 
 ghost use Rattle.std.specs.Prelude.{◌≡◌, ◌<◌, ◌≤◌, ◌==◌, if◌then◌else◌, ℕ, [], length, true, IfOk};
 ghost use Rattle.back_cdr.specs.Targets.{IsCdr};
-ghost use Rattle.stub_codes.specs.Backs.{reply_lead, IsMinorOver};
+ghost use Rattle.stub_codes.specs.Backs.{reply_form, IsMinorOver};
 ghost use Rattle.stub_codes.specs.Distinct.{AreSame};
 ghost use Rattle.stub_codes.specs.Lowered.{AreLowered};
 ghost use Rattle.stub_codes.specs.Replies.{HasArm, arm_type};
@@ -41,7 +41,7 @@ fn made(
     requires same { AreSame types.now.mint bound.now.nodes types.now.ids }
     requires lowered { AreLowered bound.now.back types.now.mint low.now }
     ensures { IfOk result (λ code.
-        Sends bound.now.back (reply_lead bound.now minor op arm) (arm_type bound.now op arm) code) }
+        Sends bound.now.back (reply_form bound.now minor op arm) (arm_type bound.now op arm) code) }
 {
     let lead = reply_lead_of(alloc, bound, op, arm, minor)?;
     let id = arm_type_of(bound, types, op, arm);
@@ -73,7 +73,7 @@ fn arm_code(
     requires stubs { AreStubs bound.now lead stubs.now }
     requires replying { AreReplying bound.now stubs.now }
     ensures { IfOk result (λ code.
-        Sends bound.now.back (reply_lead bound.now minor op arm) (arm_type bound.now op arm) code) }
+        Sends bound.now.back (reply_form bound.now minor op arm) (arm_type bound.now op arm) code) }
 {
     let id = arm_type_of(bound, types, op, arm);
     let mark = lead_mark(bound, op, arm);

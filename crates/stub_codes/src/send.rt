@@ -13,6 +13,7 @@ ghost use Rattle.stub_codes.specs.Messages.{request_type, message};
 ghost use Rattle.stub_codes.specs.Replies.{HasArm, arm_type, arm_message};
 ghost use Rattle.stub_codes.specs.Stubs.{sent_cost, reply_cost, IsCoveredReply, IsCoveredRequest, IsSparingReply, IsSparingRequest};
 
+use crate::backs::reply_head;
 use crate::codes::Codes;
 use crate::heads::numbers_are_words;
 use cast_stub::SendCode;
@@ -100,7 +101,9 @@ impl Codes {
         ensures stands { NoneFell buf.old.spent buf.new.spent }
     {
         numbers_are_words(head);
-        run_from_front(self.reply_code(op, arm, minor), head, value, buf)
+        let sent = reply_head(self.bound(), op, head);
+        numbers_are_words(&sent);
+        run_from_front(self.reply_code(op, arm, minor), &sent, value, buf)
     }
 }
 

@@ -11,7 +11,7 @@ constant-requires-2 c = omega (arith, ap length c.in_ok-after.ensures, length-dr
 
 pub returns : goal.returns
 returns c =
-    rw (c.in_ok-push-3.ensures.ok, c.in_ok-push-2.ensures.ok, c.in_ok-push.ensures.ok, c.new-ops.ensures)
+    rw (c.in_ok-push-3.ensures.ok, c.in_ok-push-2.ensures.ok, c.in_ok-push.ensures.ok, c.in_ok-ops.ensures)
     (three_seen c.in_ok-constant.field-0 c.in_ok-id.field-0 c.in_ok-constant-2.field-0 c.args.order c.args.place c.args.octets.now
     c.in_ok-before_id.field-0 c.in_ok-after.field-0 c.requires.many c.in_ok-before_id.ensures c.in_ok-after.ensures c.in_ok-constant.ensures
     c.in_ok-id.ensures c.in_ok-constant-2.ensures)
