@@ -90,8 +90,8 @@ fn next_node(alloc: Global, nodes: &mut Vec<Node>, node: u32, word: u64) -> Resu
     requires within { node < length nodes.old.items }
     ensures { IfOk result (Leads nodes.old.items nodes.new.items node word) }
 {
-    match goal(nodes.as_slice(), node, word) {
-        Some(next) => Ok(next),
+    match next(nodes.as_slice(), node, word) {
+        Some(after) => Ok(after),
         None => grown(alloc, nodes, node, word),
     }
 }

@@ -1,5 +1,5 @@
 -- Sets of names beside the operations that have them, by induction on the operations.
-use Rattle.std.proofs.Common.{◌≡◌, ℕ, zero, suc, Bool, true, false, ◌&&◌, ◌||◌, ◌==◌, List, [], ◌∷◌, ◌++◌, map, refl, sym, ap, subst, ◌∙◌, if◌then◌else◌}
+use Rattle.std.proofs.Common.{◌≡◌, ℕ, zero, suc, Bool, true, false, ◌&&◌, ◌||◌, ◌==◌, List, [], ◌∷◌, ◌++◌, map, Some, None, refl, sym, ap, subst, ◌∙◌, if◌then◌else◌}
 use Rattle.std.specs.Prelude.{slice_get}
 use Rattle.std.specs.List.{list_any}
 use Rattle.std.specs.Str.{bytes_eq}
@@ -17,8 +17,8 @@ use Rattle.indexmap.specs.IndexSet.{insert_key}
 use Rattle.front_corba.specs.declared.state.Offer.{Offer}
 use Rattle.front_corba.specs.State.{PlainOffer}
 use Rattle.front_corba.specs.Held.{plain_offer}
-use Rattle.front_corba.specs.Offers.{offer_names}
-use Rattle.front_corba.specs.Bases.{is_same, is_this, is_there}
+use Rattle.front_corba.specs.Offers.{offer_names, case_clash}
+use Rattle.front_corba.specs.Bases.{is_same, is_this, is_there, sought, offer_clash}
 use Rattle.front_corba.specs.Named.{Origins, declares, with_origin, names_of, origins_of, IsIndex}
 
 -- ---- a set beside a list
@@ -67,24 +67,33 @@ origin_found items keys home key name old is view =
     any_map (same_origin (home, items key)) (λ k. (k.0, items k.1)) keys
     ∙ ap (λ z. declares home z seen) is ∙ ap (declares home name) view
 
-put_by : {K : Type 0} (items : K → List ℕ) (keys : List (ℕ × K)) (home : ℕ) (key : K) (b : Bool)
-    → map (λ k. pair k.0 (items k.1)) (if b then keys else keys ++ (home, key) ∷ [])
-    ≡ (if b then map (λ k. pair k.0 (items k.1)) keys else map (λ k. pair k.0 (items k.1)) keys ++ pair home (items key) ∷ [])
-put_by items keys home key true = refl
-put_by items keys home key false = append_map (λ k. pair k.0 (items k.1)) keys (home, key)
+put_by : {K X : Type 0} (seen : K → X) (keys : List K) (key : K) (b : Bool)
+    → map seen (if b then keys else keys ++ key ∷ []) ≡ (if b then map seen keys else map seen keys ++ seen key ∷ [])
+put_by seen keys key true = refl
+put_by seen keys key false = append_map seen keys key
+
+-- what a set has once a key is put in, as it is seen
+put_seen : {K X : Type 0} (seen : K → X) (eq : X → X → Bool) (keys new : List K) (key : K) (old : List X)
+    → new ≡ insert_key (λ a b. eq (seen a) (seen b)) keys key → map seen keys ≡ old
+    → map seen new ≡ (if list_any (eq (seen key)) old then old else old ++ seen key ∷ [])
+put_seen seen eq keys new key old made view =
+    ap (map seen) made ∙ put_by seen keys key (list_any (λ k. eq (seen key) (seen k)) keys)
+    ∙ ap (λ z. if z then map seen keys else map seen keys ++ seen key ∷ []) (any_map (eq (seen key)) seen keys)
+    ∙ ap (λ z. if list_any (eq (seen key)) z then z else z ++ seen key ∷ []) view
+
+-- what a set of names has once a key is put in
+pub name_put : {K : Type 0} (items : K → List ℕ) (keys new : List K) (key : K) (old : List (List ℕ))
+    → new ≡ insert_key (λ a b. bytes_eq (items a) (items b)) keys key → map items keys ≡ old
+    → map items new ≡ added (items key) old
+name_put items keys new key old made view = put_seen items bytes_eq keys new key old made view
 
 -- what a set of names of interfaces has once a key is put in
 pub origin_put : {K : Type 0} (items : K → List ℕ) (keys new : List (ℕ × K)) (home : ℕ) (key : K) (name : List ℕ) (old : Origins)
     → new ≡ insert_key (λ a b. a.0 == b.0 && bytes_eq (items a.1) (items b.1)) keys (home, key)
     → items key ≡ name → map (λ k. (k.0, items k.1)) keys ≡ old
     → map (λ k. (k.0, items k.1)) new ≡ with_origin home name old
-origin_put {K = K} items keys new home key name old made is view =
-    let seen : ℕ × K → ℕ × List ℕ = λ k. pair k.0 (items k.1) in
-    let test : ℕ × K → Bool = λ k. home == k.0 && bytes_eq (items key) (items k.1) in
-    ap (map seen) made ∙ put_by items keys home key (list_any test keys)
-    ∙ ap (λ z. if z then map seen keys else map seen keys ++ pair home (items key) ∷ [])
-    (any_map (same_origin (pair home (items key))) seen keys)
-    ∙ ap (λ z. with_origin home z (map seen keys)) is ∙ ap (with_origin home name) view
+origin_put items keys new home key name old made is view =
+    put_seen (λ k. pair k.0 (items k.1)) same_origin keys new (home, key) old made view ∙ ap (λ z. with_origin home z old) is
 
 -- ---- operations
 
@@ -132,11 +141,58 @@ at_there o [] k h = absurd cc
 at_there o (p ∷ ps) zero h = ap (λ z. z || is_there o ps) h
 at_there o (p ∷ ps) (suc k) h = ap (λ z. is_same o p || z) (at_there o ps k h) ∙ or-true (is_same o p)
 
+there_or : (same eq there named : Bool) → (same ≡ true → eq ≡ true) → (there ≡ true → named ≡ true)
+    → (same || there) ≡ true → (eq || named) ≡ true
+there_or true eq there named f g h = ap (λ z. z || named) (f refl)
+there_or false eq true named f g h = ap (λ z. eq || z) (g refl) ∙ or-true eq
+there_or false eq false named f g h = absurd cc
+
+same_named : (o p : PlainOffer) → is_same o p ≡ true → bytes_eq o.operation.name p.operation.name ≡ true
+same_named o p h =
+    name_turned o.operation.name p.operation.name ∙ (and_parts (p.home == o.home) (bytes_eq p.operation.name o.operation.name) h).1
+
+-- an operation that is one of these has the name of one
+there_named : (o : PlainOffer) (ops : List PlainOffer) → is_there o ops ≡ true → has o.operation.name (offer_names ops) ≡ true
+there_named o [] h = absurd cc
+there_named o (p ∷ ps) h = there_or (is_same o p) (bytes_eq o.operation.name p.operation.name) (is_there o ps)
+    (has o.operation.name (offer_names ps)) (same_named o p) (there_named o ps) h
+
+-- ---- what a search for an operation tells
+
+-- one of them has its name
+pub sought_named : (o : PlainOffer) (ops : List PlainOffer) (b : Bool) → has o.operation.name (offer_names ops) ≡ true
+    → b ≡ is_there o ops → Some b ≡ sought o ops
+sought_named o ops b h e = rw (h, sym e) refl
+
+-- it is one of them
+pub sought_there : (o : PlainOffer) (ops : List PlainOffer) → is_there o ops ≡ true → Some true ≡ sought o ops
+sought_there o ops h = sought_named o ops true (there_named o ops h) (sym h)
+
+-- none has its name
+pub sought_none : (o : PlainOffer) (ops : List PlainOffer) → has o.operation.name (offer_names ops) ≡ false → None ≡ sought o ops
+sought_none o ops h = rw h refl
+
+none_by : (h t : Bool) → (t ≡ true → h ≡ true) → None ≡ (if h then Some t else None) → (h ≡ false) × (t ≡ false)
+none_by true t n e = absurd cc
+none_by false true n e = (refl, sym (n refl))
+none_by false false n e = (refl, refl)
+
+none_found : (o : PlainOffer) (ops : List PlainOffer) → None ≡ sought o ops
+    → (has o.operation.name (offer_names ops) ≡ false) × (is_there o ops ≡ false)
+none_found o ops e = none_by (has o.operation.name (offer_names ops)) (is_there o ops) (there_named o ops) e
+
+pub there_none : (o : PlainOffer) (ops : List PlainOffer) → None ≡ sought o ops → false ≡ is_there o ops
+there_none o ops e = sym (none_found o ops e).1
+
+-- why an operation may not be beside these, none of which has its name
+pub clash_none : (o : PlainOffer) (ops : List PlainOffer) → None ≡ sought o ops → case_clash o.operation.name ops ≡ offer_clash ops o
+clash_none o ops e = let found = none_found o ops e in rw (found.0, found.1) refl
+
 -- what a search for an operation by its interface and its name has found
-pub sought_there : (o : Offer) (ops list : List Offer) (name : List ℕ) (names folded : List (List ℕ)) (origins : Origins) (b : Bool)
+pub origin_there : (o : Offer) (ops list : List Offer) (name : List ℕ) (names folded : List (List ℕ)) (origins : Origins) (b : Bool)
     → name ≡ o.operation.name → IsIndex list names folded origins → list ≡ ops
     → b ≡ declares o.home name origins → b ≡ is_there (plain_offer o) (map plain_offer ops)
-sought_there o ops list name names folded origins b same is view h =
+origin_there o ops list name names folded origins b same is view h =
     h ∙ is.origin o.home name ∙ ap (λ z. declares o.home z (origins_of list)) same ∙ origins_are o list
     ∙ ap (λ z. is_there (plain_offer o) (map plain_offer z)) view
 

@@ -2,6 +2,8 @@
 
 -- * Sets of names beside the operations that have them, by induction on the operations
 pub mod Indexing
+-- * The operations of a base beside those of the bases before it, by induction on the base's
+pub mod Beside
 -- * Elements of lists, by their places, as plain trees, by induction on the list
 pub mod Getting
 -- A declaration puts types after the others, if any

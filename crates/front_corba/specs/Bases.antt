@@ -5,13 +5,14 @@ use Rattle.std.specs.Str.{bytes_eq}
 use Rattle.aoi.specs.declared.faults.NameFault.{NameFault}
 use Rattle.aoi.specs.declared.faults.NameFault.TheVariants.{Unknown, NotType}
 use Rattle.idl_names.specs.Answers.{Answer, fault, and_then}
+use Rattle.idl_names.specs.Names.{has}
 use Rattle.corba_syntax.specs.declared.operation_tree.Reference.{Reference}
 use Rattle.corba_scopes.specs.declared.meanings.Meaning.{Meaning}
 use Rattle.corba_scopes.specs.declared.meanings.Meaning.TheVariants as M
 use Rattle.corba_scopes.specs.Names.{refused_by, lower_of}
 use Rattle.corba_scopes.specs.Finding.{named, meaning, inheriting}
 use Rattle.front_corba.specs.State.{PlainOffer, Heirs, PlainOffering}
-use Rattle.front_corba.specs.Offers.{operation_clash, added_on}
+use Rattle.front_corba.specs.Offers.{offer_names, operation_clash, added_on}
 
 -- an operation is another: it is declared in the same interface, by the same name
 abbrev pub is_same : PlainOffer → PlainOffer → Bool
@@ -20,6 +21,10 @@ is_same o p = p.home == o.home && bytes_eq p.operation.name o.operation.name
 -- an operation is one of these
 abbrev pub is_there : PlainOffer → List PlainOffer → Bool
 is_there o ops = list_any (is_same o) ops
+
+-- whether an operation is one of these, if one has its name
+abbrev pub sought : PlainOffer → List PlainOffer → Option Bool
+sought o ops = if has o.operation.name (offer_names ops) then Some (is_there o ops) else None
 
 -- an operation is this one, if there is one
 abbrev pub is_this : PlainOffer → Option PlainOffer → Bool
@@ -44,10 +49,14 @@ abbrev pub inherited_on : ℕ → List PlainOffer → List PlainOffer → Answer
 inherited_on d ops [] = Ok ops
 inherited_on d ops (o ∷ os) = and_then (inherited d ops o) (λ ops. inherited_on d ops os)
 
--- the operations of a base, if it is there, after the others
+-- the operations of a base after the others, or their lowest fault
+abbrev pub all_joined_on : ℕ → List PlainOffer → List PlainOffer → Answer (List PlainOffer)
+all_joined_on d ops base = and_then (refused_by d (base_clash ops base)) (λ _. inherited_on d ops base)
+
+-- the same of a base, if it is there
 abbrev pub joined_on : ℕ → List PlainOffer → Option PlainOffering → Answer (List PlainOffer)
 joined_on d ops None = Ok ops
-joined_on d ops (Some i) = and_then (refused_by d (base_clash ops i.ops)) (λ _. inherited_on d ops i.ops)
+joined_on d ops (Some i) = all_joined_on d ops i.ops
 
 -- ---- names
 

@@ -14,12 +14,13 @@ use Rattle.front_corba.specs.State.{PlainOffer, Body}
 abbrev pub offer_names : List PlainOffer → List (List ℕ)
 offer_names ops = map (λ o. o.operation.name) ops
 
--- why no operation may have a name beside these: one of them has it, or has it but for the case of letters
+-- why no operation may have a name beside these: one of them has it but for the case of letters
+abbrev pub case_clash : List ℕ → List PlainOffer → Option NameFault
+case_clash name ops = if has (lower name) (map lower (offer_names ops)) then Some CaseClash else None
+
+-- the same, and where one of them has it
 abbrev pub operation_clash : List ℕ → List PlainOffer → Option NameFault
-operation_clash name ops =
-    if has name (offer_names ops) then Some Twice
-    else if has (lower name) (map lower (offer_names ops)) then Some CaseClash
-    else None
+operation_clash name ops = if has name (offer_names ops) then Some Twice else case_clash name ops
 
 -- the lower fault of a name here and beside these operations
 abbrev pub own_clash : Names → List ℕ → List PlainOffer → Option NameFault

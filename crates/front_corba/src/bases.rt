@@ -5,11 +5,11 @@ ghost use Rattle.std.specs.List.{list_any};
 ghost use Rattle.std.specs.Option.{option_map};
 ghost use Rattle.idl_names.specs.Answers.{Gives};
 ghost use Rattle.front_corba.specs.Held.{plain_offer, plain_offering, heirs};
-ghost use Rattle.front_corba.specs.Bases.{offer_clash, base_clash, inherited, inherited_on, joined_on, interface_at, new_base, base_on, bases_on};
+ghost use Rattle.front_corba.specs.Bases.{offer_clash, base_clash, inherited, inherited_on, all_joined_on, joined_on, interface_at, new_base, base_on, bases_on};
 
 use crate::copies::share_operation;
 use crate::named::{Guess, Offers};
-use crate::offers::{add, operation_clash};
+use crate::offers::{add, case_clash};
 use crate::state::{Heir, Offer, Offering};
 use crate::{NameErr, NameFault};
 use corba_scopes::{Meaning, Scopes, lower_of, refuse_fault};
@@ -27,10 +27,13 @@ fn offer_clash(
 ) -> Result<Option<NameFault>, NoMemory>
     ensures { IfOk result (λ f. f ≡ offer_clash (map plain_offer ops.now) (plain_offer offer.now)) }
 {
-    if ops.is_there(alloc, guess, offer)? {
+    let Some(there) = ops.sought(alloc, guess, offer)? else {
+        return case_clash(alloc, offer.operation.name.as_slice(), ops);
+    };
+    if there {
         return Ok(None);
     }
-    operation_clash(alloc, offer.operation.name.as_slice(), ops)
+    Ok(Some(NameFault::Twice))
 }
 
 /// Why the operations of a base may not be beside these, or nothing.
@@ -49,6 +52,21 @@ fn base_clash(
             Ok(lower_of(f, g))
         }
         [] => Ok(None),
+    }
+}
+
+/// Why the operations of a base may not be beside these, or nothing: beside none each of them may be.
+fn clash_beside(
+    alloc: Global,
+    ops: &Offers,
+    guess: &mut Guess,
+    base: &[Offer],
+) -> Result<Option<NameFault>, NoMemory>
+    ensures { IfOk result (λ f. f ≡ base_clash (map plain_offer ops.now) (map plain_offer base.now)) }
+{
+    match ops.as_slice() {
+        [] => Ok(None),
+        [_, ..] => base_clash(alloc, ops, guess, base),
     }
 }
 
@@ -82,6 +100,28 @@ fn inherit(alloc: Global, d: u32, ops: &mut Offers, base: &[Offer]) -> Result<()
     Ok(())
 }
 
+/// Puts the operations of a base after the others, or refuses them; of those that are there, the first are looked at once.
+fn join_all(
+    alloc: Global,
+    d: u32,
+    ops: &mut Offers,
+    guess: &mut Guess,
+    base: &[Offer],
+) -> Result<(), NameErr>
+    ensures { Gives (λ _. map plain_offer ops.new) result
+        (all_joined_on d (map plain_offer ops.old) (map plain_offer base.now)) }
+{
+    let [offer, rest @ ..] = base else {
+        return Ok(());
+    };
+    if ops.is_there(alloc, guess, offer)? {
+        return join_all(alloc, d, ops, guess, rest);
+    }
+    let clash = clash_beside(alloc, ops, guess, base)?;
+    refuse_fault(d, clash)?;
+    inherit(alloc, d, ops, base)
+}
+
 /// Puts the operations of a base, if it is there, after the others, or refuses them.
 fn join(alloc: Global, d: u32, ops: &mut Offers, base: Option<&Offering>) -> Result<(), NameErr>
     ensures { Gives (λ _. map plain_offer ops.new) result
@@ -90,10 +130,7 @@ fn join(alloc: Global, d: u32, ops: &mut Offers, base: Option<&Offering>) -> Res
     let Some(base) = base else {
         return Ok(());
     };
-    let base = base.ops.as_slice();
-    let clash = base_clash(alloc, ops, &mut Guess::new(), base)?;
-    refuse_fault(d, clash)?;
-    inherit(alloc, d, ops, base)
+    join_all(alloc, d, ops, &mut Guess::new(), base.ops.as_slice())
 }
 
 /// The number of an interface.

@@ -7,16 +7,56 @@ ghost use Rattle.corba_scopes.specs.Names.{lower};
 ghost use Rattle.corba_scopes.specs.Finding.{added};
 ghost use Rattle.front_corba.specs.Held.{plain_offer};
 ghost use Rattle.front_corba.specs.Offers.{offer_names};
-ghost use Rattle.front_corba.specs.Bases.{is_same, is_this, is_there};
+ghost use Rattle.front_corba.specs.Bases.{is_same, is_this, is_there, sought};
 ghost use Rattle.front_corba.specs.Named.{declares, with_origin};
 
 use crate::state::Offer;
-use idl_names::Names;
 use indexmap::IndexSet;
 use kit_base::{Listed, NoMemory};
 use std::alloc::Global;
 use std::marker::Model;
 use std::mem::replace;
+
+/// Names, each once.
+#[derive(Drop)]
+struct Names {
+    keys: IndexSet<Vec<u8>>,
+}
+
+impl Model for Names {
+    ghost use Rattle.std.specs.Prelude.{List, ℕ, map};
+    ghost use Rattle.std.specs.Coded.{codes};
+
+    ghost Value = { List (List ℕ) };
+
+    ghost view = { λ s. map (λ k. k.items) s.keys.keys };
+}
+
+impl Names {
+    /// No names.
+    fn new(alloc: Global) -> Names
+        ensures { result ≡ [] }
+    {
+        Names {
+            keys: IndexSet::new(alloc),
+        }
+    }
+
+    /// Whether a name is one of them.
+    fn has(&self, name: &[u8]) -> bool
+        ensures { result ≡ has name.now self.now }
+    {
+        self.keys.contains(name)
+    }
+
+    /// Puts a name after the others, unless it is there.
+    fn add(&mut self, name: Vec<u8>) -> Result<(), NoMemory>
+        ensures { OnOk result (self.new ≡ added name.items self.old) }
+    {
+        self.keys.insert(name)?;
+        Ok(())
+    }
+}
 
 /// Names, each with the interface in which it is declared.
 #[derive(Drop)]
@@ -61,16 +101,6 @@ impl Origins {
     }
 }
 
-/// Puts a name after the others, unless it is there.
-fn mark(alloc: Global, names: &mut Names, name: &[u8]) -> Result<(), NoMemory>
-    ensures { OnOk result (names.new ≡ added name.now names.old) }
-{
-    if names.has(name) {
-        return Ok(());
-    }
-    names.push(alloc, name)
-}
-
 /// Puts the name of an operation into each set.
 fn index(
     alloc: Global,
@@ -84,9 +114,8 @@ fn index(
     ensures small { OnOk result (folded.new ≡ added (lower name.now) folded.old) }
     ensures origin { OnOk result (origins.new ≡ with_origin home name.now origins.old) }
 {
-    let small = name.to_ascii_lowercase(alloc)?;
-    mark(alloc, names, name)?;
-    mark(alloc, folded, small.as_slice())?;
+    names.add(Vec::from_slice(alloc, name)?)?;
+    folded.add(name.to_ascii_lowercase(alloc)?)?;
     origins.add(alloc, home, name)
 }
 
@@ -197,8 +226,34 @@ impl Offers {
         }
     }
 
-    /// Whether an operation is one of these: by the interface that declares it, and its name. It is looked for where
-    /// it is guessed first.
+    /// Whether an operation is one of these, if one has its name. It is looked for where it is guessed first, and
+    /// its interface only where its name is found.
+    pub(crate) fn sought(
+        &self,
+        alloc: Global,
+        guess: &mut Guess,
+        offer: &Offer,
+    ) -> Result<Option<bool>, NoMemory>
+        ensures { IfOk result (λ b. b ≡ sought (plain_offer offer.now) (map plain_offer self.now)) }
+    {
+        if self.is_at(guess.place, offer) {
+            guess.pass(guess.place);
+            return Ok(Some(true));
+        }
+        let name = offer.operation.name.as_slice();
+        if !self.has_name(name) {
+            return Ok(None);
+        }
+        match self.origins.place(alloc, offer.home, name)? {
+            Some(place) => {
+                guess.pass(place);
+                Ok(Some(true))
+            }
+            None => Ok(Some(false)),
+        }
+    }
+
+    /// Whether an operation is one of these: by the interface that declares it, and its name.
     pub(crate) fn is_there(
         &self,
         alloc: Global,
@@ -207,16 +262,8 @@ impl Offers {
     ) -> Result<bool, NoMemory>
         ensures { IfOk result (λ b. b ≡ is_there (plain_offer offer.now) (map plain_offer self.now)) }
     {
-        if self.is_at(guess.place, offer) {
-            guess.pass(guess.place);
-            return Ok(true);
-        }
-        let name = offer.operation.name.as_slice();
-        match self.origins.place(alloc, offer.home, name)? {
-            Some(place) => {
-                guess.pass(place);
-                Ok(true)
-            }
+        match self.sought(alloc, guess, offer)? {
+            Some(there) => Ok(there),
             None => Ok(false),
         }
     }

@@ -5,7 +5,7 @@ ghost use Rattle.kit_base.specs.Limits.{most_operations};
 ghost use Rattle.aoi.specs.Plain.{plain_operation};
 ghost use Rattle.idl_names.specs.Answers.{Gives};
 ghost use Rattle.front_corba.specs.Held.{plain_offer, body};
-ghost use Rattle.front_corba.specs.Offers.{operation_clash, own_clash, placed, added_on, offered_on};
+ghost use Rattle.front_corba.specs.Offers.{case_clash, operation_clash, own_clash, placed, added_on, offered_on};
 
 use crate::named::Offers;
 use crate::state::Offer;
@@ -17,22 +17,29 @@ use kit_base::NoMemory;
 use kit_base::limits::MOST_OPERATIONS;
 use std::alloc::Global;
 
-/// Why no operation may have a name beside these, or nothing.
-pub(crate) fn operation_clash(
+/// Why no operation may have a name beside these, none of which has it, or nothing.
+pub(crate) fn case_clash(
     alloc: Global,
     name: &[u8],
     ops: &Offers,
 ) -> Result<Option<NameFault>, NoMemory>
-    ensures { IfOk result (λ f. f ≡ operation_clash name.now (map plain_offer ops.now)) }
+    ensures { IfOk result (λ f. f ≡ case_clash name.now (map plain_offer ops.now)) }
 {
-    if ops.has_name(name) {
-        return Ok(Some(NameFault::Twice));
-    }
     let small = name.to_ascii_lowercase(alloc)?;
     if ops.has_lower(small.as_slice()) {
         return Ok(Some(NameFault::CaseClash));
     }
     Ok(None)
+}
+
+/// Why no operation may have a name beside these, or nothing.
+fn operation_clash(alloc: Global, name: &[u8], ops: &Offers) -> Result<Option<NameFault>, NoMemory>
+    ensures { IfOk result (λ f. f ≡ operation_clash name.now (map plain_offer ops.now)) }
+{
+    if ops.has_name(name) {
+        return Ok(Some(NameFault::Twice));
+    }
+    case_clash(alloc, name, ops)
 }
 
 /// Why no operation may have a name here and beside these, or nothing.
