@@ -24,7 +24,7 @@ pub mod Alike
 pub mod Written
 -- * What becomes of a buffer where a record was read, or refused
 pub mod Paying
--- * Lines whose requests are read without their trees are answered by their trees
+-- * Lines whose records are read without their trees are answered by their trees
 pub mod WithoutTrees
 -- * Each message has counts
 pub mod Counting

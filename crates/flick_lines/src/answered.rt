@@ -35,7 +35,7 @@ pub fn answer(
     match verb {
         Verb::Marshal => marshal(alloc, engine, text, scratch, buf),
         Verb::Unmarshal => unmarshal(alloc, engine, text),
-        Verb::Reply => reply(alloc, engine, text, buf),
+        Verb::Reply => reply(alloc, engine, text, scratch, buf),
         Verb::Unreply => unreply(alloc, engine, text),
         Verb::Count => count(alloc, engine, text, scratch, buf),
     }

@@ -14,15 +14,36 @@ ghost use Rattle.flick_lines.specs.Paid.{reply_by_code, IsPaid, IsPaidRecord};
 
 use crate::marshalled::{refused, tree_of};
 use crate::text::{copied, digits};
+use crate::usual::usual_reply;
 use flick_engine::{Engine, long_alone};
-use json_shape::{RequestRec, read_reply};
+use json_shape::{RequestRec, Scratch, read_reply};
 use kit_base::{NoMemory, Octets};
 use raw_buf::SendBuf;
 use serde_json::Value as Json;
 use std::alloc::Global;
 
-/// The answer of `reply` to a line, without its line feed. The message is made in the buffer.
+/// The answer of `reply` to a line, without its line feed. The message is made in the buffer, and the scratch is for
+/// reading.
 pub fn reply(
+    alloc: Global,
+    engine: &Engine,
+    line: &[u8],
+    scratch: &mut Scratch,
+    buf: &mut SendBuf,
+) -> Result<Octets, NoMemory>
+    requires answers { engine.now.answers ≡ true }
+    ensures value { IfOk result (λ o. IsReplied engine.now.binding engine.now.minor line.now o) }
+    ensures spent { NoneFell buf.old.spent buf.new.spent }
+    ensures paid { OnOk result (IsPaid verbs.Reply engine.now line.now buf.old buf.new) }
+{
+    match usual_reply(alloc, engine, line, scratch)? {
+        Some(record) => digits_of(alloc, engine, &record, buf),
+        None => by_tree(alloc, engine, line, buf),
+    }
+}
+
+/// The same by the tree of a line.
+fn by_tree(
     alloc: Global,
     engine: &Engine,
     line: &[u8],

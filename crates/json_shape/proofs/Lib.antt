@@ -60,3 +60,7 @@ pub mod UsualUnions
 pub mod UsualMembers
 -- * Request records in the usual form
 pub mod UsualRecords
+-- Members that may be there, read one after the other, by induction on them
+pub mod UsualNamed
+-- * Reply records in the usual form
+pub mod UsualReplies

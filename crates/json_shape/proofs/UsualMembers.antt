@@ -17,25 +17,15 @@ use Rattle.serde_json.proofs.Views.{get_member-put, get_member-put_other}
 use Rattle.json_shape.specs.Members.{each_key, head_key, head_number, is_list, is_mach, is_text}
 use Rattle.json_shape.specs.Presents.{Presents}
 use Rattle.json_shape.specs.Requests.{head_of, is_idle_port, is_request, is_request_key}
-use Rattle.json_shape.specs.Usual.{args_of, members_after, port_of, put_before, put_some, IsOnce, IsPresented, IsWord}
+use Rattle.json_shape.specs.Usual.{args_of, members_after, port_of, put_before, put_some, IsOnce, IsPresented, IsTree, IsWord}
+use Rattle.json_shape.specs.UsualReplies.{set_some}
 use Rattle.json_shape.proofs.ReadBack.{in_word}
 use Rattle.wire_def.proofs.ScalarGrammar.{left_true, right_true}
 
 -- ---- members that may be there
 
--- a member of a text, and the same of its tree
-abbrev pub AreAlike : Option text.Json → Option Data → Type 0
-AreAlike None None = Unit {0}
-AreAlike (Some j) (Some d) = of_json j ≡ Some d
-AreAlike _ _ = ⊥
-
--- a member among others, where it is there
-abbrev pub set_some : List ℕ → Option Data → Members → Members
-set_some k None ms = ms
-set_some k (Some d) ms = put k d ms
-
 -- the next member of a text is set among those before it
-set_next : (k : List ℕ) (o : Option text.Json) (d : Option Data) (ms : text.Members) (acc : Members) → AreAlike o d
+pub set_next : (k : List ℕ) (o : Option text.Json) (d : Option Data) (ms : text.Members) (acc : Members) → IsTree o d
     → of_members (put_some k o ms) acc ≡ of_members ms (set_some k d acc)
 set_next k None None ms acc h = refl
 set_next k None (Some d) ms acc h = absurd h
@@ -43,12 +33,12 @@ set_next k (Some j) None ms acc h = absurd h
 set_next k (Some j) (Some d) ms acc h = rw h refl
 
 -- it is found by its key
-found_set : (q : List ℕ) (o : Option Data) (ms : Members) → get_member q ms ≡ None → get_member q (set_some q o ms) ≡ o
+pub found_set : (q : List ℕ) (o : Option Data) (ms : Members) → get_member q ms ≡ None → get_member q (set_some q o ms) ≡ o
 found_set q None ms none = none
 found_set q (Some d) ms none = get_member-put q d ms
 
 -- other keys find what they found
-found_past : (q k : List ℕ) (o : Option Data) (ms : Members) → bytes_eq q k ≡ false → get_member q (set_some k o ms) ≡ get_member q ms
+pub found_past : (q k : List ℕ) (o : Option Data) (ms : Members) → bytes_eq q k ≡ false → get_member q (set_some k o ms) ≡ get_member q ms
 found_past q k None ms other = refl
 found_past q k (Some d) ms other =
     get_member-put_other q k d ms (λ e. let same : bytes_eq q k ≡ true = (bytes_eq-Decides q k).1 e in absurd cc)
@@ -64,7 +54,7 @@ keys_put p k d (member l e ms) is all =
       step Greater more = rw (left_true (p l) (each_key p ms) all) more
 
 -- all keys are still of those
-keys_set : (p : List ℕ → Bool) (k : List ℕ) (o : Option Data) (ms : Members) → p k ≡ true → each_key p ms ≡ true
+pub keys_set : (p : List ℕ → Bool) (k : List ℕ) (o : Option Data) (ms : Members) → p k ≡ true → each_key p ms ≡ true
     → each_key p (set_some k o ms) ≡ true
 keys_set p k None ms is all = all
 keys_set p k (Some d) ms is all = keys_put p k d ms is all
@@ -77,7 +67,7 @@ later before None = before
 later before (Some d) = Some d
 
 -- set where it stands, it is found by its key
-found_later : (q : List ℕ) (before after : Option Data) (ms : Members) → get_member q ms ≡ before
+pub found_later : (q : List ℕ) (before after : Option Data) (ms : Members) → get_member q ms ≡ before
     → get_member q (set_some q after ms) ≡ later before after
 found_later q before None ms is = is
 found_later q before (Some d) ms is = get_member-put q d ms
@@ -85,24 +75,24 @@ found_later q before (Some d) ms is = get_member-put q d ms
 -- a member of a text that stands once, as trees before the operation and after it
 pub record Parted (before after : Option text.Json) (d : Option Data) : Type 0 where
   pub trees : Option Data × Option Data
-  pub alike_before : AreAlike before trees.0
-  pub alike_after : AreAlike after trees.1
+  pub alike_before : IsTree before trees.0
+  pub alike_after : IsTree after trees.1
   pub is : later trees.0 trees.1 ≡ d
 
-later_alone : (d : Option Data) → later None d ≡ d
+pub later_alone : (d : Option Data) → later None d ≡ d
 later_alone None = refl
 later_alone (Some d) = refl
 
-pub parted : (before after o : Option text.Json) (d : Option Data) → IsOnce before after o → AreAlike o d → Parted before after d
+pub parted : (before after o : Option text.Json) (d : Option Data) → IsOnce before after o → IsTree o d → Parted before after d
 parted None after o d once alike = record {
   trees = (None, d);
   alike_before = tt;
-  alike_after = subst (λ (x : Option text.Json). AreAlike x d) once alike;
+  alike_after = subst (λ (x : Option text.Json). IsTree x d) once alike;
   is = later_alone d;
 }
 parted (Some j) None o d once alike = record {
   trees = (d, None);
-  alike_before = subst (λ (x : Option text.Json). AreAlike x d) once alike;
+  alike_before = subst (λ (x : Option text.Json). IsTree x d) once alike;
   alike_after = tt;
   is = refl;
 }
@@ -121,9 +111,9 @@ members_of k t id local args =
 
 -- the tree of a record in a usual order
 module _ (k : Back) (op : text.Json) (t : List ℕ) (i0 i1 l0 l1 a0 a1 : Option text.Json) (i l a : Option Data × Option Data)
-    (is_op : of_json op ≡ Some (string t)) (i_before : AreAlike i0 i.0) (i_after : AreAlike i1 i.1)
-    (l_before : AreAlike (port_of k l0) l.0) (l_after : AreAlike (port_of k l1) l.1)
-    (a_before : AreAlike a0 a.0) (a_after : AreAlike a1 a.1)
+    (is_op : of_json op ≡ Some (string t)) (i_before : IsTree i0 i.0) (i_after : IsTree i1 i.1)
+    (l_before : IsTree (port_of k l0) l.0) (l_after : IsTree (port_of k l1) l.1)
+    (a_before : IsTree a0 a.0) (a_after : IsTree a1 a.1)
   where
     -- the text from its operation on
     abbrev pub from_op : text.Members
@@ -194,11 +184,11 @@ head_known back.CdrBig = refl
 head_known back.CdrLittle = refl
 head_known back.Mach = refl
 
-absent : (d : Option Data) → AreAlike None d → d ≡ None
+absent : (d : Option Data) → IsTree None d → d ≡ None
 absent None h = refl
 absent (Some d) h = absurd h
 
-local_known : (k : Back) (local : Option text.Json) (l : Option Data) (ms : Members) → AreAlike (port_of k local) l
+local_known : (k : Back) (local : Option text.Json) (l : Option Data) (ms : Members) → IsTree (port_of k local) l
     → each_key (is_request_key k) ms ≡ true → each_key (is_request_key k) (set_some (codes "local") l ms) ≡ true
 local_known back.Xdr local l ms h all = rw (absent l h) all
 local_known back.CdrBig local l ms h all = rw (absent l h) all
@@ -210,7 +200,7 @@ all_true a b c d e p q r s t = rw (p, q, r, s, t) refl
 
 -- these members are a request record
 module _ (k : Back) (t : List ℕ) (l0 l1 : Option text.Json) (i l a : Option Data × Option Data)
-    (before : AreAlike (port_of k l0) l.0) (after : AreAlike (port_of k l1) l.1) where
+    (before : IsTree (port_of k l0) l.0) (after : IsTree (port_of k l1) l.1) where
   known_before : each_key (is_request_key k) (members_before k i l a) ≡ true
   known_before =
       local_known k l0 l.0 _ before
@@ -236,7 +226,7 @@ module _ (k : Back) (t : List ℕ) (l0 l1 : Option text.Json) (i l a : Option Da
 -- a head number in a tree
 pub record WordTree (o : Option text.Json) (n : ℕ) : Type 0 where
   pub tree : Option Data
-  pub alike : AreAlike o tree
+  pub alike : IsTree o tree
   pub number : head_number tree ≡ Some n
 
 pub word_tree : (o : Option text.Json) (n : ℕ) → n < 2 ^ 32 → IsWord o n → WordTree o n
@@ -278,7 +268,7 @@ port_answered back.Mach o m idle = idle
 -- arguments in a tree
 pub record ArgsTree (o : Option text.Json) (f : Face) (v : Val) : Type 0 where
   pub tree : Option Data
-  pub alike : AreAlike o tree
+  pub alike : IsTree o tree
   pub listed : is_list tree ≡ true
   pub presents : Presents f (unwrap_or tree (array no_items)) v
 

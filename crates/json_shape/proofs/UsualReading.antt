@@ -341,7 +341,7 @@ members_closed d fs names ids old now new vs l m distinct h closed =
 object_test : (n m : ℕ) (o : Option Vals) → n ≡ m → (if n == m then o else None) ≡ o
 object_test n m o same = let test : (n == m) ≡ true = grind (arith, nat_tests, same) in rw test refl
 
-seen-Group : (vs : List Value) → seen (value.Group vs) ≡ vals.group (all_seen vs)
+pub seen-Group : (vs : List Value) → seen (value.Group vs) ≡ vals.group (all_seen vs)
 seen-Group vs = ap seen (sym (value.rolls-Group vs)) ∙ fold-roll-Value Val seen_level (Value-F.Group vs)
 
 seen-Items : (vs : List Value) → seen (value.Items vs) ≡ vals.items (all_seen vs)

@@ -27,8 +27,8 @@ use Rattle.json_shape.specs.Operations.{is_oneway, op_named}
 use Rattle.json_shape.specs.Presents.{Presents}
 use Rattle.json_shape.specs.Reading.{value_of}
 use Rattle.json_shape.specs.Records.{Comes}
-use Rattle.json_shape.specs.Requests.{head_of, is_idle_port, is_unanswered}
-use Rattle.json_shape.specs.Usual.{args_of, members_after, once_of, port_of, put_before, put_some, some_tokens, AreValues, ArgsTaken, ArrayTaken, HeadsTaken, IsFlat, IsHeadOf, IsNumber, IsOnce, IsPresented, IsRecord, IsRequestIn, IsRequestOf, IsWord, PortTaken, Reads, RequestTaken, WordRead, WordTaken}
+use Rattle.json_shape.specs.Requests.{head_of, is_idle_port, is_unanswered, request_of}
+use Rattle.json_shape.specs.Usual.{args_of, members_after, Begins, once_of, port_of, put_before, put_some, some_tokens, AreValues, ArgsTaken, ArrayTaken, HeadsTaken, IsFlat, IsHeadOf, IsNumber, IsOnce, IsPresented, IsRecord, IsRecordIn, IsRecordOf, IsWord, PortTaken, Reads, RecordTaken, WordRead, WordTaken}
 use Rattle.json_shape.proofs.Options.{one_some}
 use Rattle.json_shape.proofs.Shown.{read_presents}
 use Rattle.json_shape.proofs.ReadBack.{head_read, whole}
@@ -45,7 +45,7 @@ pub ruleset words = (word_read)
 pub usual_comes : (b : Binding) (j op : text.Json) (id local args : Option text.Json) (t : List ℕ) (n m k : ℕ) (o : Op) (r : RequestRec)
     → IsRecord b.back j op id local args → n < 2 ^ 32 → m < 2 ^ 32 → of_json op ≡ Some (string t) → IsWord id n → IsWord local m
     → op_named b t ≡ Some (k, o) → is_idle_port o m ≡ false → IsPresented (args_of args) (face_at b.nodes b.shapes o.request) (seen r.value)
-    → r.op ≡ k → r.head ≡ head_of b.back n m (not (is_oneway b k)) → IsRequestOf b j r
+    → r.op ≡ k → r.head ≡ head_of b.back n m (not (is_oneway b k)) → IsRecordOf (request_of b) j r
 usual_comes b j op id local args t n m k o r has small little is_op is_id is_local named busy value number_is head_is =
     let f : Face = face_at b.nodes b.shapes o.request in
     let wants : Bool = not (is_oneway b k) in
@@ -202,7 +202,7 @@ number_once (Some j) (Some i) (Some m) None x p q is = absurd q
 -- ---- members
 
 -- a member that may be there, before members
-member_first : (k : List ℕ) (o : Option text.Json) (ms : text.Members) (rest : List Token)
+pub member_first : (k : List ℕ) (o : Option text.Json) (ms : text.Members) (rest : List Token)
     → some_tokens k o ++ (members_tokens ms ++ rest) ≡ members_tokens (put_some k o ms) ++ rest
 member_first k None ms rest = refl
 member_first k (Some j) ms rest = ap (λ (ts : List Token). key k ∷ ts) (sym (append_assoc (json_tokens j) (members_tokens ms) rest))
@@ -245,7 +245,7 @@ taken_comes : (b : Binding) (o0 o1 m0 m1 : List Token) (n0 n1 p0 p1 : Option ℕ
     → (after : HeadsTaken b.back o1 m1 n1 p1) (args0 args1 args : Option text.Json) (t : List ℕ) (k : ℕ) (o : Op) (h : Head)
     → (r : RequestRec) → IsOnce args0 args1 args → op_named b t ≡ Some (k, o) → IsHeadOf b k o (n0, n1) (p0, p1) h
     → IsPresented (args_of args) (face_at b.nodes b.shapes o.request) (seen r.value) → r.op ≡ k → r.head ≡ h
-    → IsRequestOf b
+    → IsRecordOf (request_of b)
     (text.object
     (put_before b.back before.first.member before.second.local args0
     (text.member (codes "op") (text.string t) (members_after b.back after.first.member after.second.local args1)))) r
@@ -272,7 +272,7 @@ pub op_first : (b : Binding) (first now opened named_at tail heads_past new : Li
     → (o : Op) (h : Head) (r : RequestRec) → first ≡ now → HeadsTaken b.back now opened n0 p0
     → opened ≡ key (codes "op") ∷ token.string t ∷ named_at → named_at ≡ tail → HeadsTaken b.back tail heads_past n1 p1
     → ArgsTaken 126 heads_past new (face_at b.nodes b.shapes o.request) (seen r.value) → op_named b t ≡ Some (k, o)
-    → IsHeadOf b k o (n0, n1) (p0, p1) h → r.op ≡ k → r.head ≡ h → RequestTaken 126 b first new r
+    → IsHeadOf b k o (n0, n1) (p0, p1) h → r.op ≡ k → r.head ≡ h → RecordTaken 126 (request_of b) first new r
 op_first b first now opened named_at tail heads_past new n0 n1 p0 p1 t k o h r same before is_op next after args named head number_is
     head_is =
     let given = put_some (codes "args") args.args text.no_members in
@@ -295,7 +295,7 @@ pub args_first : (b : Binding) (first begun past now opened named_at tail heads_
     → ArrayTaken 126 begun past (face_at b.nodes b.shapes o.request) (seen r.value) → past ≡ now → HeadsTaken b.back now opened n0 p0
     → opened ≡ key (codes "op") ∷ token.string t ∷ named_at → named_at ≡ tail → HeadsTaken b.back tail heads_past n1 p1
     → heads_past ≡ end_object ∷ new → op_named b t ≡ Some (k, o) → IsHeadOf b k o (n0, n1) (p0, p1) h → r.op ≡ k → r.head ≡ h
-    → RequestTaken 126 b first new r
+    → RecordTaken 126 (request_of b) first new r
 args_first b first begun past now opened named_at tail heads_past new n0 n1 p0 p1 t k o h r is_args args same before is_op next after
     ends named head number_is head_is =
     let from_op = text.member (codes "op") (text.string t) (with_heads b.back tail heads_past new n1 p1 after text.no_members) in
@@ -317,10 +317,10 @@ args_first b first begun past now opened named_at tail heads_past new n0 n1 p0 p
           named head args.is number_is head_is;
     }
 
--- the request of a whole text
-pub line_request : (b : Binding) (line now new : List Token) (text_of_line : List ℕ) (r : RequestRec) → line ≡ tokens text_of_line
-    → line ≡ begin_object ∷ now → RequestTaken 126 b now new r → new ≡ [] → IsRequestIn b text_of_line r
-line_request b line now new text_of_line r is begins h ends =
+-- the record of a whole text
+pub line_record : (begun : Begins) (line now new : List Token) (text_of_line : List ℕ) (r : RequestRec) → line ≡ tokens text_of_line
+    → line ≡ begin_object ∷ now → RecordTaken 126 begun now new r → new ≡ [] → IsRecordIn begun text_of_line r
+line_record begun line now new text_of_line r is begins h ends =
     let j = text.object h.members in
     let all : tokens text_of_line ≡ json_tokens j ++ [] =
     sym is ∙ begins

@@ -14,4 +14,5 @@ pub mod Requests
 pub mod Scalars
 pub mod Texts
 pub mod Usual
+pub mod UsualReplies
 pub mod Written

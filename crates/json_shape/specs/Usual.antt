@@ -1,5 +1,5 @@
 -- What is read of tokens of text, where they are in the usual form.
-use Rattle.std.specs.Prelude.{◌≡◌, ◌≤◌, ◌<◌, ◌^◌, ◌++◌, ℕ, ℤ, List, [], ◌∷◌, Option, Some, None, Ok, true, false, not, is_some, option_and_then, unwrap_or, if◌then◌else◌, codes}
+use Rattle.std.specs.Prelude.{◌≡◌, ◌≤◌, ◌<◌, ◌^◌, ◌++◌, ℕ, ℤ, List, [], ◌∷◌, Option, Some, None, Result, Ok, true, false, not, is_some, option_and_then, unwrap_or, if◌then◌else◌, codes}
 use Rattle.std.specs.Borrow.{Bor}
 use Rattle.json.specs.Json as text
 use Rattle.json.specs.Token.{Token, end_object, key}
@@ -15,12 +15,14 @@ use Rattle.pres.specs.Faces as face
 use Rattle.serde_json.specs.Data.{Data, Items, Members, no_members, number, unsigned}
 use Rattle.serde_json.specs.Data as json
 use Rattle.serde_json.specs.Read.{of_json, of_items, of_members, read}
+use Rattle.json_shape.specs.declared.errors.RecordErr.{RecordErr}
 use Rattle.json_shape.specs.declared.records.RequestRec.{RequestRec}
 use Rattle.serde_json.specs.Find.{as_array}
 use Rattle.json_shape.specs.Members.{head_key, is_mach}
 use Rattle.json_shape.specs.Presents.{size, Presents}
 use Rattle.json_shape.specs.Reading.{after}
-use Rattle.json_shape.specs.Records.{Comes}
+use Rattle.json_shape.specs.Records.{Begun, Comes}
+use Rattle.json_shape.specs.Replies.{reply_of}
 use Rattle.json_shape.specs.Operations.{is_oneway}
 use Rattle.json_shape.specs.Requests.{head_of, is_idle_port, request_of}
 use Rattle.json_shape.specs.Scalars.{each_in}
@@ -226,21 +228,33 @@ pub record ArrayTaken (d : ℕ) (old new : List Token) (f : Face) (v : Val) : Ty
   pub nests : depth source ≤ d
   pub is : IsPresented source f v
 
--- a tree of text is a tree, and the record is the request that it presents
-pub record IsRequestOf (b : Binding) (j : text.Json) (r : RequestRec) : Type 0 where
+-- what trees begin as records
+abbrev pub Begins : Type 0
+Begins = Data → Result Begun RecordErr
+
+-- a tree of text is a tree, and the record is what it presents
+pub record IsRecordOf (begun : Begins) (j : text.Json) (r : RequestRec) : Type 0 where
   pub tree : Data
   pub is : of_json j ≡ Some tree
-  pub comes : Comes (request_of b tree) (Ok r)
+  pub comes : Comes (begun tree) (Ok r)
 
--- from `old` to `new` there are the tokens of members and of the end of their object, which is the request
-pub record RequestTaken (d : ℕ) (b : Binding) (old new : List Token) (r : RequestRec) : Type 0 where
+-- from `old` to `new` there are the tokens of members and of the end of their object, which is the record
+pub record RecordTaken (d : ℕ) (begun : Begins) (old new : List Token) (r : RequestRec) : Type 0 where
   pub members : text.Members
   pub takes : old ≡ members_tokens members ++ new
   pub nests : members_depth members ≤ d
-  pub is : IsRequestOf b (text.object members) r
+  pub is : IsRecordOf begun (text.object members) r
 
--- a text is a tree, and the record is the request that it presents
-pub record IsRequestIn (b : Binding) (line : List ℕ) (r : RequestRec) : Type 0 where
+-- a text is a tree, and the record is what it presents
+pub record IsRecordIn (begun : Begins) (line : List ℕ) (r : RequestRec) : Type 0 where
   pub tree : Data
   pub is : read line ≡ Some tree
-  pub comes : Comes (request_of b tree) (Ok r)
+  pub comes : Comes (begun tree) (Ok r)
+
+-- a text is a tree, and the record is the request that it presents
+abbrev pub IsRequestIn : Binding → List ℕ → RequestRec → Type 0
+IsRequestIn b = IsRecordIn (request_of b)
+
+-- a text is a tree, and the record is the reply that it presents
+abbrev pub IsReplyIn : Binding → List ℕ → RequestRec → Type 0
+IsReplyIn b = IsRecordIn (reply_of b)

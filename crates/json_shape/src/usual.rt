@@ -303,7 +303,7 @@ fn arm(
 
 /// The value of an arm that is absent, which is void.
 #[tactic(auto, unfolding(crate::specs::Reading::value_of))]
-fn void(bound: &Bound, id: NodeId) -> Result<Value, Halt>
+pub(crate) fn void(bound: &Bound, id: NodeId) -> Result<Value, Halt>
     requires { id < length bound.now.nodes }
     ensures { IfOk result (λ v. value_of (face_at bound.now.nodes bound.now.shapes id) null ≡ Some (seen v)) }
 {

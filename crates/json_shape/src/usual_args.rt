@@ -22,7 +22,7 @@ use pres::{Bound, Shape};
 use std::alloc::Global;
 
 /// The levels of the deepest JSON within a record.
-const DEEPEST: usize = 126;
+pub(crate) const DEEPEST: usize = 126;
 
 /// The value of the arguments, where their key is the one that was taken, or of none at the end of the object.
 pub(crate) fn args_at(

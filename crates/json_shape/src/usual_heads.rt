@@ -51,7 +51,7 @@ fn local_at<'a>(
 }
 
 /// The head number of a key, where that is the one that was taken, and the key after it.
-fn word_at<'a>(
+pub(crate) fn word_at<'a>(
     name: &str,
     taken: Option<&'a str>,
     reader: &mut Reader<'a>,

@@ -6,7 +6,8 @@ ghost use Rattle.json.specs.Token.{key, string};
 ghost use Rattle.mint.specs.Typed.{IsWellTyped};
 ghost use Rattle.mint.specs.Types.{type_at};
 ghost use Rattle.mint.specs.Values.{seen};
-ghost use Rattle.json_shape.specs.Usual.{key_token, IsRequestIn, RequestTaken};
+ghost use Rattle.json_shape.specs.Requests.{request_of};
+ghost use Rattle.json_shape.specs.Usual.{key_token, IsRequestIn, RecordTaken};
 
 use crate::errors::{Halt, Unusual};
 use crate::operations::op_named;
@@ -19,8 +20,8 @@ use kit_base::NoMemory;
 use pres::Bound;
 use std::alloc::Global;
 
-/// A request, or why none was read.
-type Asked = Result<RequestRec, Halt>;
+/// A record, or why none was read.
+pub(crate) type Asked = Result<RequestRec, Halt>;
 
 /// The request that a text presents as a record, where it is in the usual form; none says nothing of the text.
 /// The scratch has space for its strings and places: one is kept from line to line.
@@ -59,7 +60,7 @@ fn request_in(alloc: Global, bound: &Bound, line: &str, scratch: &mut Scratch) -
 /// The request of members, up to the end of the object. Their text begins with the arguments where these stand before
 /// the operation.
 fn in_order_of(alloc: Global, bound: &Bound, line: &str, reader: &mut Reader<'_>) -> Asked
-    ensures request { IfOk result (λ r. RequestTaken 126 bound.now reader.old reader.new r) }
+    ensures request { IfOk result (λ r. RecordTaken 126 (request_of bound.now) reader.old reader.new r) }
     ensures op { IfOk result (λ r. r.op < length bound.now.ops) }
     ensures typed { IfOk result (λ r. IfSome (slice_get bound.now.ops r.op)
         (λ op. IsWellTyped (type_at bound.now.nodes op.request) (seen r.value))) }
@@ -90,7 +91,7 @@ fn before_quote(octets: &[u8]) -> Option<&str> {
 }
 
 /// Looks that no token is left.
-fn end(reader: &mut Reader<'_>) -> Result<(), Unusual>
+pub(crate) fn end(reader: &mut Reader<'_>) -> Result<(), Unusual>
     ensures { OnOk result (reader.old ≡ []) }
 {
     match reader.next() {
@@ -101,7 +102,7 @@ fn end(reader: &mut Reader<'_>) -> Result<(), Unusual>
 
 /// The request of members whose operation stands before the arguments, up to the end of the object.
 fn op_and_args(alloc: Global, bound: &Bound, reader: &mut Reader<'_>) -> Asked
-    ensures request { IfOk result (λ r. RequestTaken 126 bound.now reader.old reader.new r) }
+    ensures request { IfOk result (λ r. RecordTaken 126 (request_of bound.now) reader.old reader.new r) }
     ensures op { IfOk result (λ r. r.op < length bound.now.ops) }
     ensures typed { IfOk result (λ r. IfSome (slice_get bound.now.ops r.op)
         (λ op. IsWellTyped (type_at bound.now.nodes op.request) (seen r.value))) }
@@ -122,7 +123,7 @@ fn op_and_args(alloc: Global, bound: &Bound, reader: &mut Reader<'_>) -> Asked
 
 /// The request of members whose arguments stand before the operation, which has this name, up to the end of the object.
 fn args_and_op(alloc: Global, bound: &Bound, name: &str, reader: &mut Reader<'_>) -> Asked
-    ensures request { IfOk result (λ r. RequestTaken 126 bound.now reader.old reader.new r) }
+    ensures request { IfOk result (λ r. RecordTaken 126 (request_of bound.now) reader.old reader.new r) }
     ensures op { IfOk result (λ r. r.op < length bound.now.ops) }
     ensures typed { IfOk result (λ r. IfSome (slice_get bound.now.ops r.op)
         (λ op. IsWellTyped (type_at bound.now.nodes op.request) (seen r.value))) }
@@ -146,7 +147,7 @@ fn args_and_op(alloc: Global, bound: &Bound, name: &str, reader: &mut Reader<'_>
 }
 
 /// The name of the operation, where its key is the one that was taken.
-fn op_at<'a>(taken: Option<&'a str>, reader: &mut Reader<'a>) -> Result<&'a str, Unusual>
+pub(crate) fn op_at<'a>(taken: Option<&'a str>, reader: &mut Reader<'a>) -> Result<&'a str, Unusual>
     ensures { IfOk result (λ s. key_token taken.entry ∷ reader.old
         ≡ key (codes "op") ∷ string s.now ∷ reader.new) }
 {
