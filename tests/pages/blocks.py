@@ -245,9 +245,10 @@ def first_number(cell):
 def dearest(_):
     memory = [(first_number(cell), column, row) for row, cells in measured("costs").items() for column, cell in cells.items()]
     time = max((first_number(cell), row) for row, cells in measured("tables").items() for cell in cells.values())
-    usual, most = max(each for each in memory if each[1] != "unreply"), max(memory)
+    deep = [each for each in memory if each[2].endswith(", deep")]
+    usual = max(each for each in memory if each not in deep)
     kept = first_number(measured("memory")["unpipe, 64 MiB of empty fragments"]["the fewest lines"]) / 65_536
-    return [f"- **Memory**: a line takes at most {usual[0]} octets for each of its own, under `{most[1]}` over {'CDR' if 'cdr' in most[2] else most[2].split()[-1]} {most[0]}; then status 7.",
+    return [f"- **Memory**: a line takes at most {usual[0]:,} octets for each of its own, {max(deep)[0]:,} in structs of one field within one another; then status 7.",
             f"- **Time**: about 1,500 instructions for an octet of a line; more for lines of few octets, long answers, and {time[1].split(', ')[0]} ({time[0]:,}).",
             f"- **Streams**: a record is kept, with its empty fragments, until it is whole: {kept:.2f} octets for each."]
 
